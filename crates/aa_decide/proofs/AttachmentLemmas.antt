@@ -7,12 +7,12 @@ use Rattle.std.proofs.lemmas.Bool.{and_parts, not-true}
 use Rattle.std.proofs.lemmas.List.{get_or-map, length-map}
 use Rattle.std.proofs.lemmas.Option.{get_or_from_slice_get, slice_get-get_or, slice_get_within}
 use Rattle.std.proofs.lemmas.Slice.Eq.{bytes_eq-Decides}
-use Rattle.aa_decide_attachment.specs.RankLaws.{StandsOut}
-use Rattle.aa_decide_attachment.specs.StandingOut.{standing_out}
+use Rattle.aa_decide_rules.specs.RankLaws.{StandsOut}
+use Rattle.aa_decide_rules.specs.StandingOut.{standing_out}
 use Rattle.aa_profile_data.specs.Profile.{are_distinct, is_named}
 use Rattle.aa_decide.specs.Attachment.{attached, entry_rank}
-use Rattle.aa_decide_slots.specs.Named.{profiles_of}
-use Rattle.aa_decide_slots.specs.Entries.{Loaded}
+use Rattle.aa_decide_ready.specs.Named.{profiles_of}
+use Rattle.aa_decide_ready.specs.Entries.{Loaded}
 use Rattle.aa_decide.specs.ExecLaws.{DifferInOrder, FitsBest, HaveDistinctNames, HaveSameEntries}
 
 -- what stands at a place is there, and what is there stands at a place

@@ -2,7 +2,7 @@
 use Rattle.std.proofs.Common.{◌≡◌, ◌∙◌, ℕ, zero, suc, ◌+◌, ◌<◌, List, [], ◌∷◌, ◌++◌, length, take, map, get_or, Some, arith, ap, sym}
 use Rattle.std.specs.Prelude.{slice_get}
 use Rattle.std.proofs.lemmas.Option.{slice_get-get_or}
-use Rattle.aa_decide_attachment.specs.Ranks.{best_rank}
+use Rattle.aa_decide_rules.specs.Ranks.{best_rank}
 use Rattle.aa_profile_data.specs.declared.profile.Child.{Child}
 use Rattle.aa_decide_ready.specs.Visits.{child_attachments}
 

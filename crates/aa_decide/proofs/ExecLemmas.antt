@@ -6,34 +6,34 @@ use Rattle.std.specs.Option.{option_map}
 use Rattle.std.specs.Str.{bytes_eq}
 use Rattle.std.proofs.lemmas.Bool.{and_parts}
 use Rattle.std.proofs.lemmas.Slice.Eq.{bytes_eq-Decides}
-use Rattle.aa_profile_access.specs.Access.{EXEC}
-use Rattle.aa_profile_access.specs.ExecWords.{row}
-use Rattle.aa_profile_access.specs.Stacks.{Stack}
-use Rattle.aa_profile_access.specs.declared.exec_word.Destination.{Destination}
-use Rattle.aa_profile_access.specs.declared.exec_word.Destination.TheVariants as to
-use Rattle.aa_profile_access.specs.declared.exec_word.ExecWord.{ExecWord}
-use Rattle.aa_decide_attachment.specs.Ranks.{best_rank}
-use Rattle.aa_decide_exec_rules.specs.Choices.{Choice, Denied as DeniedByRule, Leads, Missing, choice, choice_of, denies}
-use Rattle.aa_decide_exec_rules.specs.ExecRules.{Denying, ExecRule, Leading, exec_rules, said_of}
-use Rattle.aa_profile_access.specs.FullNames.{full_name}
+use Rattle.aa_profile_data.specs.Access.{EXEC}
+use Rattle.aa_profile_data.specs.ExecWords.{row}
+use Rattle.aa_profile_data.specs.Stacks.{Stack}
+use Rattle.aa_profile_data.specs.declared.exec_word.Destination.{Destination}
+use Rattle.aa_profile_data.specs.declared.exec_word.Destination.TheVariants as to
+use Rattle.aa_profile_data.specs.declared.exec_word.ExecWord.{ExecWord}
+use Rattle.aa_decide_rules.specs.Ranks.{best_rank}
+use Rattle.aa_decide_rules.specs.Choices.{Choice, Denied as DeniedByRule, Leads, Missing, choice, choice_of, denies}
+use Rattle.aa_decide_rules.specs.ExecRules.{Denying, ExecRule, Leading, exec_rules, said_of}
+use Rattle.aa_profile_data.specs.FullNames.{full_name}
 use Rattle.aa_profile_data.specs.Profile.{child_place}
 use Rattle.aa_profile_data.specs.declared.profile.Mode.{Mode}
 use Rattle.aa_profile_data.specs.declared.profile.Mode.TheVariants.{Complain, Enforce, Unconfined as UnconfinedMode}
 use Rattle.aa_profile_data.specs.declared.profile.Rule.{Rule}
 use Rattle.aa_profile_data.specs.declared.profile.Transition.{Transition}
 use Rattle.aa_decide.specs.Attachment.{attached}
-use Rattle.aa_decide_rules.specs.declared.verdict.Mediation.{Mediation}
-use Rattle.aa_decide_rules.specs.declared.verdict.Mediation.TheVariants.{Complaining, Enforcing}
-use Rattle.aa_decide_slots.specs.Confinement.{By, ByName, Confinement, Unconfined as NotConfined, confined, in_state, mode_at}
-use Rattle.aa_decide_slots.specs.Entries.{Loaded, is_in_force}
+use Rattle.aa_decide_rules.specs.declared.judgement.Mediation.{Mediation}
+use Rattle.aa_decide_rules.specs.declared.judgement.Mediation.TheVariants.{Complaining, Enforcing}
+use Rattle.aa_decide_ready.specs.Confinement.{By, ByName, Confinement, Unconfined as NotConfined, confined, in_state, mode_at}
+use Rattle.aa_decide_ready.specs.Entries.{Loaded, is_in_force}
 use Rattle.aa_decide.specs.Exec.{Asker, Base, ExecAnswer, Nowhere, Null, OnProfile, Stacked, Started, Unconfined, Under, are_in_force, asking_base, base_of, by_choice, by_full_name}
 use Rattle.aa_decide.specs.Exec.{carried_out, confined_start, entry_asker, exec_answer, fallback_base, is_named_in_force, led, led_by, led_by_word, missing, named_in_force, named_stack, own_start}
 use Rattle.aa_decide.specs.Exec.{place_of_child, stacked_on, started, to_child, to_profile, to_stack, unconfined_start, under}
 use Rattle.aa_decide.specs.ExecLaws.{DifferInOrder, IsBaseInForce, SomeRuleDenies}
 use Rattle.aa_decide_ready.specs.Sections.{Section, section_at}
-use Rattle.aa_decide_slots.specs.declared.entry.State.{State}
-use Rattle.aa_decide_slots.specs.declared.entry.State.TheVariants.{Disabled, Modes}
-use Rattle.aa_decide_audit.specs.declared.verdict.Answer.TheVariants.{Deny}
+use Rattle.aa_decide_ready.specs.declared.entry.State.{State}
+use Rattle.aa_decide_ready.specs.declared.entry.State.TheVariants.{Disabled, Modes}
+use Rattle.aa_decide_rules.specs.declared.verdict.Answer.TheVariants.{Deny}
 use Rattle.aa_decide.proofs.AttachmentLemmas.{RankLaw, at-there, attached-holds, attached-order, one-named}
 
 -- the answer by where a transition leads, and by the profile that is attached

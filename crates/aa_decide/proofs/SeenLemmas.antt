@@ -1,18 +1,18 @@
 -- Answers of the code, as the definitions see them.
 use Rattle.std.proofs.Common.{◌≡◌, ℕ, Bool, true, List, Option, None, Some, ap, refl, subst, ◌∙◌}
 use Rattle.std.specs.Option.{option_map}
-use Rattle.aa_profile_access.specs.ExecWords.{row}
-use Rattle.aa_profile_access.specs.Stacks.{Stack}
-use Rattle.aa_profile_access.specs.declared.exec_word.ExecWord.{ExecWord}
+use Rattle.aa_profile_data.specs.ExecWords.{row}
+use Rattle.aa_profile_data.specs.Stacks.{Stack}
+use Rattle.aa_profile_data.specs.declared.exec_word.ExecWord.{ExecWord}
 use Rattle.aa_profile_data.specs.declared.profile.Transition.{Transition}
-use Rattle.aa_decide_rules.specs.declared.verdict.Mediation.{Mediation}
-use Rattle.aa_decide_slots.specs.Entries.{Loaded}
+use Rattle.aa_decide_rules.specs.declared.judgement.Mediation.{Mediation}
+use Rattle.aa_decide_ready.specs.Entries.{Loaded}
 use Rattle.aa_decide.specs.Exec.{Asker, Stacked, Started, are_in_force, base_of, carried_out, exec_verdict, led_by, missing, started, tag_if, to_stack}
 use Rattle.aa_decide.specs.SeenExec.{IsAnswer, IsDestination, seen_to}
-use Rattle.aa_decide_audit.specs.declared.exec_verdict.ExecTo.{ExecTo}
-use Rattle.aa_decide_audit.specs.declared.exec_verdict.ExecVerdict.{ExecVerdict}
-use Rattle.aa_decide_audit.specs.declared.verdict.Answer.TheVariants.{Allow}
-use Rattle.aa_decide_audit.specs.declared.verdict.Tag.TheVariants.{Audit}
+use Rattle.aa_decide_rules.specs.declared.exec_verdict.ExecTo.{ExecTo}
+use Rattle.aa_decide_rules.specs.declared.exec_verdict.ExecVerdict.{ExecVerdict}
+use Rattle.aa_decide_rules.specs.declared.verdict.Answer.TheVariants.{Allow}
+use Rattle.aa_decide_rules.specs.declared.verdict.Tag.TheVariants.{Audit}
 
 some-of : {A : Type 0} (one other : A) → Some one ≡ Some other → one ≡ other
 some-of one other same = cc

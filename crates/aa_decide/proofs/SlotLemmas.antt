@@ -8,16 +8,16 @@ use Rattle.std.proofs.lemmas.Bool.{cases_lt}
 use Rattle.std.proofs.lemmas.List.{get_or-map, length-map}
 use Rattle.std.proofs.lemmas.Map.Keys.{below_from_sorted, sorted_from_strictly_increasing}
 use Rattle.std.proofs.lemmas.Option.{get_or_from_slice_get, slice_get-get_or}
-use Rattle.aa_decide_attachment.specs.RankLaws.{StandsOut}
-use Rattle.aa_decide_attachment.specs.Ranks.{best_rank, greater, rank}
-use Rattle.aa_decide_attachment.specs.StandingOut.{greatest, has_rank, place_of_only, standing_out}
+use Rattle.aa_decide_rules.specs.RankLaws.{StandsOut}
+use Rattle.aa_decide_rules.specs.Ranks.{best_rank, greater, rank}
+use Rattle.aa_decide_rules.specs.StandingOut.{greatest, has_rank, place_of_only, standing_out}
 use Rattle.aa_decide.specs.Attachment.{attached, entry_rank}
 use Rattle.std.specs.Str.{bytes_eq}
 use Rattle.aa_decide.specs.Exec.{named_in_force}
-use Rattle.aa_decide_slots.specs.Named.{entry_named}
-use Rattle.aa_decide_slots.specs.SlotAttachments.{AreAttaching, Attaches}
-use Rattle.aa_decide_slots.specs.Entries.{Loaded, is_in_force}
-use Rattle.aa_decide_slots.specs.Slots.{Holds, entry_at, filled}
+use Rattle.aa_decide_ready.specs.Named.{entry_named}
+use Rattle.aa_decide_ready.specs.SlotAttachments.{AreAttaching, Attaches}
+use Rattle.aa_decide_ready.specs.Entries.{Loaded, is_in_force}
+use Rattle.aa_decide_ready.specs.Slots.{Holds, entry_at, filled}
 use Rattle.aa_glob_syntax.specs.Matching.{matches}
 use Rattle.aa_glob_syntax.specs.Patterns.{IsPatternAt}
 use Rattle.aa_glob_syntax.specs.Reading.{items_of}

@@ -1,9 +1,9 @@
 -- Attachment: which of the profiles in force a program belongs to by its path (apparmor.d(5), "Profile Head"; docs/policy.md, "Exec and attachment").
 use Rattle.std.specs.Prelude.{ℕ, if◌then◌else◌, List, map, Option, option_and_then, slice_get}
-use Rattle.aa_decide_attachment.specs.Ranks.{best_rank}
-use Rattle.aa_decide_attachment.specs.StandingOut.{standing_out}
+use Rattle.aa_decide_rules.specs.Ranks.{best_rank}
+use Rattle.aa_decide_rules.specs.StandingOut.{standing_out}
 use Rattle.aa_profile_data.specs.declared.profile.Child.{Child}
-use Rattle.aa_decide_slots.specs.Entries.{Loaded, is_in_force}
+use Rattle.aa_decide_ready.specs.Entries.{Loaded, is_in_force}
 
 -- the rank of a loaded profile on a path: that of the best of its attachments; 0 where none matches, and where it is disabled
 abbrev pub entry_rank : List ℕ → Loaded → ℕ

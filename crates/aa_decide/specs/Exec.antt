@@ -3,28 +3,28 @@ use Rattle.std.specs.Prelude.{ℕ, Bool, false, ◌&&◌, if◌then◌else◌, L
 use Rattle.std.specs.List.{list_all}
 use Rattle.std.specs.Option.{option_map}
 use Rattle.std.specs.Str.{bytes_eq}
-use Rattle.aa_profile_access.specs.Access.{EXEC}
-use Rattle.aa_profile_access.specs.ExecWords.{row}
-use Rattle.aa_profile_access.specs.Stacks.{Stack, stack_of}
-use Rattle.aa_profile_access.specs.declared.exec_word.Destination.{Destination}
-use Rattle.aa_profile_access.specs.declared.exec_word.Destination.TheVariants as to
-use Rattle.aa_profile_access.specs.declared.exec_word.ExecWord.{ExecWord}
-use Rattle.aa_decide_exec_rules.specs.Choices.{Choice, Denied as DeniedByRule, Leads, Missing, choice}
-use Rattle.aa_profile_access.specs.FullNames.{FullName, full_name}
+use Rattle.aa_profile_data.specs.Access.{EXEC}
+use Rattle.aa_profile_data.specs.ExecWords.{row}
+use Rattle.aa_profile_data.specs.Stacks.{Stack, stack_of}
+use Rattle.aa_profile_data.specs.declared.exec_word.Destination.{Destination}
+use Rattle.aa_profile_data.specs.declared.exec_word.Destination.TheVariants as to
+use Rattle.aa_profile_data.specs.declared.exec_word.ExecWord.{ExecWord}
+use Rattle.aa_decide_rules.specs.Choices.{Choice, Denied as DeniedByRule, Leads, Missing, choice}
+use Rattle.aa_profile_data.specs.FullNames.{FullName, full_name}
 use Rattle.aa_profile_data.specs.Profile.{child_place}
 use Rattle.aa_profile_data.specs.declared.profile.Profile.{Profile}
 use Rattle.aa_profile_data.specs.declared.profile.Transition.{Transition}
 use Rattle.aa_decide.specs.Attachment.{attached, attached_child}
-use Rattle.aa_decide_rules.specs.declared.verdict.Mediation.{Mediation}
-use Rattle.aa_decide_rules.specs.declared.verdict.Mediation.TheVariants.{Complaining, Enforcing}
-use Rattle.aa_decide_slots.specs.Confinement.{By, ByName, Confinement, Unconfined as NotConfined, in_state}
-use Rattle.aa_decide_slots.specs.Entries.{Loaded, is_in_force}
-use Rattle.aa_decide_slots.specs.Named.{entry_named}
-use Rattle.aa_decide_audit.specs.declared.verdict.Answer.{Answer}
-use Rattle.aa_decide_audit.specs.declared.verdict.Answer.TheVariants.{Allow, Complain, Deny, Refuse}
-use Rattle.aa_decide_audit.specs.declared.verdict.Tag.{Tag}
-use Rattle.aa_decide_audit.specs.declared.verdict.Tag.TheVariants.{Allowed, Audit, Denied}
-use Rattle.aa_decide_audit.specs.declared.verdict.Verdict.{Verdict}
+use Rattle.aa_decide_rules.specs.declared.judgement.Mediation.{Mediation}
+use Rattle.aa_decide_rules.specs.declared.judgement.Mediation.TheVariants.{Complaining, Enforcing}
+use Rattle.aa_decide_ready.specs.Confinement.{By, ByName, Confinement, Unconfined as NotConfined, in_state}
+use Rattle.aa_decide_ready.specs.Entries.{Loaded, is_in_force}
+use Rattle.aa_decide_ready.specs.Named.{entry_named}
+use Rattle.aa_decide_rules.specs.declared.verdict.Answer.{Answer}
+use Rattle.aa_decide_rules.specs.declared.verdict.Answer.TheVariants.{Allow, Complain, Deny, Refuse}
+use Rattle.aa_decide_rules.specs.declared.verdict.Tag.{Tag}
+use Rattle.aa_decide_rules.specs.declared.verdict.Tag.TheVariants.{Allowed, Audit, Denied}
+use Rattle.aa_decide_rules.specs.declared.verdict.Verdict.{Verdict}
 
 -- who asks by a loaded profile: itself, or its child or hat at a place
 pub record Asker : Type 0 where

@@ -2,12 +2,12 @@
 use Rattle.std.specs.Prelude.{◌≡◌, ◌<◌, ℕ, Bool, true, false, List, Some}
 use Rattle.std.specs.List.{Contains}
 use Rattle.std.specs.Str.{bytes_eq}
-use Rattle.aa_decide_exec_rules.specs.ExecRules.{Denying, said_of}
+use Rattle.aa_decide_rules.specs.ExecRules.{Denying, said_of}
 use Rattle.aa_profile_data.specs.declared.profile.Rule.{Rule}
 use Rattle.aa_decide.specs.Attachment.{entry_rank}
-use Rattle.aa_decide_slots.specs.Named.{have_distinct_names}
+use Rattle.aa_decide_ready.specs.Named.{have_distinct_names}
 use Rattle.aa_decide.specs.Exec.{Base, OnProfile, OnUnconfined}
-use Rattle.aa_decide_slots.specs.Entries.{Loaded, is_in_force}
+use Rattle.aa_decide_ready.specs.Entries.{Loaded, is_in_force}
 use Rattle.aa_decide_ready.specs.Sections.{Section}
 
 -- no two entries have one name

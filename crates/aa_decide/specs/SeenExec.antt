@@ -1,15 +1,15 @@
 -- Who asks to start a program, and what is answered, as the definitions see it: slots stand for the entries in them.
 use Rattle.std.specs.Prelude.{◌≡◌, ℕ, List, Option, None, Some}
 use Rattle.std.specs.Option.{option_map}
-use Rattle.aa_decide_slots.specs.Entries.{Loaded}
+use Rattle.aa_decide_ready.specs.Entries.{Loaded}
 use Rattle.aa_decide.specs.Exec.{Asker, Base, ExecAnswer, Nowhere, Null, OnProfile, OnUnconfined, Stacked, Started, Unconfined, Under}
-use Rattle.aa_decide_slots.specs.Slots.{entry_at}
-use Rattle.aa_decide_audit.specs.declared.exec_verdict.ExecTo.{ExecTo}
-use Rattle.aa_decide_audit.specs.declared.exec_verdict.ExecTo.TheVariants as to
-use Rattle.aa_decide_audit.specs.declared.exec_verdict.ExecVerdict.{ExecVerdict}
-use Rattle.aa_decide_audit.specs.declared.exec_verdict.StackBase.{StackBase}
-use Rattle.aa_decide_audit.specs.declared.exec_verdict.StackBase.TheVariants as base
-use Rattle.aa_profile_access.specs.Stacks.{parts_of}
+use Rattle.aa_decide_ready.specs.Slots.{entry_at}
+use Rattle.aa_decide_rules.specs.declared.exec_verdict.ExecTo.{ExecTo}
+use Rattle.aa_decide_rules.specs.declared.exec_verdict.ExecTo.TheVariants as to
+use Rattle.aa_decide_rules.specs.declared.exec_verdict.ExecVerdict.{ExecVerdict}
+use Rattle.aa_decide_rules.specs.declared.exec_verdict.StackBase.{StackBase}
+use Rattle.aa_decide_rules.specs.declared.exec_verdict.StackBase.TheVariants as base
+use Rattle.aa_profile_data.specs.Stacks.{parts_of}
 use Rattle.aa_decide.specs.declared.asker.Asker.{Asker as FoundAsker}
 use Rattle.aa_decide.specs.declared.asker.Who.{Who}
 use Rattle.aa_decide.specs.declared.asker.Who.TheVariants as who

@@ -4,14 +4,13 @@ ghost use Rattle.std.specs.Prelude.{◌≡◌, IfSome, List, Option, Some};
 ghost use Rattle.std.specs.Option.{option_copied, option_map};
 ghost use Rattle.aa_decide.specs.Exec.{entry_asker, named_asker, under};
 ghost use Rattle.aa_decide.specs.SeenExec.{IsIn, asker_in, seen_asker, seen_to};
-ghost use Rattle.aa_decide_slots.specs.Entries.{Loaded};
-ghost use Rattle.aa_decide_slots.specs.Slots.{filled};
-ghost use Rattle.aa_profile_access.specs.FullNames.{full_name};
+ghost use Rattle.aa_decide_ready.specs.Entries.{Loaded};
+ghost use Rattle.aa_decide_ready.specs.Slots.{filled};
+ghost use Rattle.aa_profile_data.specs.FullNames.{full_name};
 
-use aa_decide_audit::ExecTo;
-use aa_decide_slots::{Entry, IndexedSlots, entry_at, find_named};
-use aa_profile_access::cut_full_name;
-use aa_profile_data::child_place;
+use aa_decide_ready::{Entry, IndexedSlots, entry_at, find_named};
+use aa_decide_rules::ExecTo;
+use aa_profile_data::{child_place, cut_full_name};
 
 /// Who asks by a loaded profile, as long as this is in force.
 #[derive(Clone, Copy)]

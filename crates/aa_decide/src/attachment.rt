@@ -1,13 +1,13 @@
 //! Which of the profiles in force a program belongs to by its path.
 
 ghost use Rattle.std.specs.Prelude.{◌≡◌, IfOk, map, slice_get};
-ghost use Rattle.aa_decide_attachment.specs.Ranks.{best_rank};
+ghost use Rattle.aa_decide_rules.specs.Ranks.{best_rank};
 ghost use Rattle.aa_decide.specs.Attachment.{attached, attached_child, entry_rank};
-ghost use Rattle.aa_decide_slots.specs.Slots.{Holds, entry_at, filled};
+ghost use Rattle.aa_decide_ready.specs.Slots.{Holds, entry_at, filled};
 ghost use Rattle.aa_decide.specs.code.SlotRanks.{slot_rank};
 
-use aa_decide_attachment::{best_rank, standing_out, which_rank_stands_out};
-use aa_decide_slots::{Entry, IndexedSlots, Ready, ReadySection, Steps, entry_at};
+use aa_decide_ready::{Entry, IndexedSlots, Ready, ReadySection, Steps, entry_at};
+use aa_decide_rules::{best_rank, standing_out, which_rank_stands_out};
 use std::alloc::{AllocError, Global};
 
 // The rank of a profile, or of a child or hat, on a path.

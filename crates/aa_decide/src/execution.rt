@@ -4,26 +4,25 @@ ghost use Rattle.std.specs.Prelude.{◌≡◌, IfOk, IfSome, List, None, Option,
 ghost use Rattle.std.specs.Option.{option_map};
 ghost use Rattle.aa_decide.specs.Exec.{by_choice, carried_out, exec_answer, exec_verdict, led, led_by, led_by_word, missing, own_start};
 ghost use Rattle.aa_decide.specs.Exec.{place_of_child, stopped, tag_if, to_child, to_profile, unconfined_start};
-ghost use Rattle.aa_decide_slots.specs.Entries.{Loaded};
-ghost use Rattle.aa_decide_slots.specs.Slots.{filled};
+ghost use Rattle.aa_decide_ready.specs.Entries.{Loaded};
+ghost use Rattle.aa_decide_ready.specs.Slots.{filled};
 ghost use Rattle.aa_decide.specs.code.SeenExec.{IsAnswerAnywhere, IsDestinationOf};
 ghost use Rattle.aa_decide.specs.SeenExec.{IsAnswer, IsDestination, IsIn, asker_in, seen_asker, seen_to};
-ghost use Rattle.aa_decide_audit.specs.declared.verdict.Answer.TheVariants.{Allow};
-ghost use Rattle.aa_decide_audit.specs.declared.verdict.Tag.TheVariants.{Audit};
-ghost use Rattle.aa_decide_exec_rules.specs.Choices.{choice};
-ghost use Rattle.aa_decide_exec_rules.specs.SeenChoices.{seen_choice};
+ghost use Rattle.aa_decide_rules.specs.declared.verdict.Answer.TheVariants.{Allow};
+ghost use Rattle.aa_decide_rules.specs.declared.verdict.Tag.TheVariants.{Audit};
+ghost use Rattle.aa_decide_rules.specs.Choices.{choice};
+ghost use Rattle.aa_decide_rules.specs.SeenChoices.{seen_choice};
 
 use crate::asker::{Asker, Who, asker_in, under};
 use crate::attachment::{attach, attached_child};
 use crate::slots::by_full_name;
 use crate::stacks::{named_stack, to_stack};
 use aa_bytes::SharedBytes;
-use aa_decide_audit::{Answer, ExecTo, ExecVerdict, Tag, Verdict};
-use aa_decide_exec_rules::{ExecChoice, exec_choice};
-use aa_decide_rules::Mediation;
-use aa_decide_slots::{Confinement, IndexedSlots, Ready, ReadySection, Steps};
-use aa_profile_access::{Destination, Perms};
-use aa_profile_data::{Transition, child_place};
+use aa_decide_ready::{Confinement, IndexedSlots, Ready, ReadySection, Steps};
+use aa_decide_rules::{
+    Answer, ExecChoice, ExecTo, ExecVerdict, Mediation, Tag, Verdict, exec_choice,
+};
+use aa_profile_data::{Destination, Perms, Transition, child_place};
 use std::alloc::{AllocError, Global};
 
 // A verdict on the start of a program.
@@ -354,7 +353,7 @@ fn asked_by<'a>(
 /// `Refuse` or `Complain`, where no allow rule with an exec word does; else where the first of those leads that
 /// dominate, or else where its fallback does. A rule may lead under several profiles at once, a stack ([`led_by_word`]),
 /// of which each is in force. The rules of a profile that was made ready agree ([`ReadySection::rules_agree`]), and of such rules all
-/// that dominate have one transition (`where_agreeing_rules_lead` of `aa_decide_exec_rules`). A disabled profile is
+/// that dominate have one transition (`where_agreeing_rules_lead` of `aa_decide_rules`). A disabled profile is
 /// never gone to. `owned` says whether the task's user owns the file. What it answers is said of the filled slots in
 /// their order, and a profile that it tells is in a filled one.
 ///

@@ -2,20 +2,19 @@
 
 ghost use Rattle.std.specs.Prelude.{◌≡◌, ◌<◌, ◌^◌, ◌↔◌, ℕ, Bool, IfSome, List, Option, Some, true};
 ghost use Rattle.std.specs.List.{All};
-ghost use Rattle.aa_profile_access.specs.Access.{EXEC};
+ghost use Rattle.aa_profile_data.specs.Access.{EXEC};
 ghost use Rattle.aa_decide.specs.Attachment.{attached};
-ghost use Rattle.aa_decide_slots.specs.Confinement.{By, in_state};
-ghost use Rattle.aa_decide_slots.specs.Entries.{Loaded, is_in_force};
+ghost use Rattle.aa_decide_ready.specs.Confinement.{By, in_state};
+ghost use Rattle.aa_decide_ready.specs.Entries.{Loaded, is_in_force};
 ghost use Rattle.aa_decide.specs.Exec.{Asker, Base, Stacked, Under, are_in_force, exec_answer};
 ghost use Rattle.aa_decide.specs.ExecLaws.{DifferInOrder, FitsBest, HaveDistinctNames, IsBaseInForce, SomeRuleDenies};
-ghost use Rattle.aa_decide_exec_rules.specs.Laws.{RulesLeadOneWay};
+ghost use Rattle.aa_decide_rules.specs.Laws.{RulesLeadOneWay};
 ghost use Rattle.aa_decide_ready.specs.Sections.{Section};
-ghost use Rattle.aa_decide_rules.specs.declared.verdict.Mediation.{Mediation};
-ghost use Rattle.aa_decide_audit.specs.declared.verdict.Answer.TheVariants.{Deny};
+ghost use Rattle.aa_decide_rules.specs.declared.judgement.Mediation.{Mediation};
+ghost use Rattle.aa_decide_rules.specs.declared.verdict.Answer.TheVariants.{Deny};
 
-use aa_decide_attachment::which_rank_stands_out;
-use aa_decide_exec_rules::where_agreeing_rules_lead;
-use aa_decide_slots::ReadySection;
+use aa_decide_ready::ReadySection;
+use aa_decide_rules::{where_agreeing_rules_lead, which_rank_stands_out};
 
 /// A program never runs under a disabled profile, nor under a child or hat of one, and what a stack is on and all others in it are in force. Of
 /// profiles of different names a path is attached to one exactly where this has an attachment that matches and ranks above all others. The order of

@@ -8,15 +8,14 @@ mod laws;
 mod slots;
 mod stacks;
 
-pub use aa_decide_audit::{
-    Answer, ExecTo, ExecVerdict, StackBase, Tag, Verdict, exec_line, log_line,
-};
-pub use aa_decide_exec_rules::ExecChoice;
-pub use aa_decide_rules::{Mediation, what_rules_decide};
-pub use aa_decide_slots::{
+pub use aa_decide_ready::{
     Confinement, Entry, IndexedSlots, Ready, ReadySection, State, Steps, entry_at, find_named,
 };
-pub use aa_profile_access::Request;
+pub use aa_decide_rules::{
+    Answer, ExecChoice, ExecTo, ExecVerdict, Mediation, StackBase, Tag, Verdict, exec_line,
+    log_line, what_rules_decide,
+};
+pub use aa_profile_data::Request;
 pub use asker::{Asker, Who, find_loaded};
 pub use attachment::{attach, attached_child};
 pub use execution::{choice_of, exec, exec_by, led, led_by_word};

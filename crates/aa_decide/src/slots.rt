@@ -4,12 +4,12 @@ ghost use Rattle.std.specs.Prelude.{◌≡◌, IfSome, Some};
 ghost use Rattle.std.specs.Option.{option_map};
 ghost use Rattle.aa_decide.specs.Exec.{by_full_name, is_named_in_force, named_in_force};
 ghost use Rattle.aa_decide.specs.SeenExec.{IsDestination};
-ghost use Rattle.aa_decide_slots.specs.Slots.{entry_at, filled};
+ghost use Rattle.aa_decide_ready.specs.Slots.{entry_at, filled};
 
 use crate::asker::{named_in, under};
-use aa_decide_audit::ExecTo;
-use aa_decide_slots::{Entry, IndexedSlots, find_named};
-use aa_profile_access::cut_full_name;
+use aa_decide_ready::{Entry, IndexedSlots, find_named};
+use aa_decide_rules::ExecTo;
+use aa_profile_data::cut_full_name;
 
 // Whether a profile is in force and has this name.
 fn is_named_in_force(entry: &Entry, name: &[u8]) -> bool

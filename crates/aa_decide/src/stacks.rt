@@ -6,19 +6,18 @@ ghost use Rattle.aa_decide.specs.Exec.{Base, Stacked, are_in_force, asking_base,
 ghost use Rattle.aa_decide.specs.Exec.{profile_base, to_stack};
 ghost use Rattle.aa_decide.specs.SeenExec.{IsBase, IsDestination, IsIn, seen_asker};
 ghost use Rattle.aa_decide.specs.code.SeenExec.{IsBaseOf};
-ghost use Rattle.aa_decide_slots.specs.Entries.{Loaded};
-ghost use Rattle.aa_decide_slots.specs.Slots.{filled};
-ghost use Rattle.aa_profile_access.specs.ExecWords.{row};
-ghost use Rattle.aa_profile_access.specs.SeenStacks.{seen_stack};
-ghost use Rattle.aa_profile_access.specs.Stacks.{parts_of};
+ghost use Rattle.aa_decide_ready.specs.Entries.{Loaded};
+ghost use Rattle.aa_decide_ready.specs.Slots.{filled};
+ghost use Rattle.aa_profile_data.specs.ExecWords.{row};
+ghost use Rattle.aa_profile_data.specs.SeenStacks.{seen_stack};
+ghost use Rattle.aa_profile_data.specs.Stacks.{parts_of};
 
 use crate::asker::Asker;
 use crate::attachment::attach;
 use crate::slots::by_full_name;
-use aa_decide_audit::{ExecTo, StackBase};
-use aa_decide_slots::IndexedSlots;
-use aa_profile_access::{Destination, ExecWord, Stack, first_member, stack_of};
-use aa_profile_data::Transition;
+use aa_decide_ready::IndexedSlots;
+use aa_decide_rules::{ExecTo, StackBase};
+use aa_profile_data::{Destination, ExecWord, Stack, Transition, first_member, stack_of};
 use std::alloc::{AllocError, Global};
 
 // Whether a full name is that of a profile, child or hat in force.

@@ -1,2 +1,6 @@
 pub mod AgreementLemmas
+pub mod AttachmentLemmas
+pub mod FindLemmas
+pub mod NameLemmas
 pub mod PartLemmas
+pub mod SameLemmas

@@ -5,9 +5,9 @@ use Rattle.aa_glob_syntax.specs.Patterns.{AreMatching}
 use Rattle.aa_profile_data.specs.declared.profile.Child.{Child}
 use Rattle.aa_profile_data.specs.declared.profile.Rule.{Rule}
 use Rattle.aa_profile_data.specs.declared.profile.Rule.TheVariants.{Cap, File, Net, Other}
-use Rattle.aa_glob_automaton.specs.Visits.{IsReadOf}
+use Rattle.aa_glob.specs.Visits.{IsReadOf}
 use Rattle.aa_glob_pattern.specs.Beginnings.{HasStates}
-use Rattle.aa_glob_front.specs.Visits.{AreEach, AreVisits}
+use Rattle.aa_glob_nfa.specs.Visits.{AreEach, AreVisits}
 use Rattle.aa_decide_ready.specs.Visits.{AreAllVisitsOf, AreVisitsOf, child_attachments}
 use Rattle.aa_profile_data.specs.FileRules.{file_patterns}
 use Rattle.aa_profile_data.specs.Matching.{AreMatchingRules}

@@ -1,5 +1,12 @@
+pub mod Confinement
+pub mod Entries
+pub mod Indexes
+pub mod Named
 pub mod Ready
 pub mod Sections
 pub mod SeenSections
+pub mod SlotAttachments
+pub mod SlotNames
+pub mod Slots
 pub mod Visits
 pub mod code

@@ -1,12 +1,12 @@
 -- What a profile says of a request, or a child or a hat of it.
 use Rattle.std.specs.Prelude.{ℕ, Bool, false, List, [], Option, None, Some, slice_get}
-use Rattle.aa_profile_access.specs.Request.{Request}
+use Rattle.aa_profile_data.specs.Request.{Request}
 use Rattle.aa_profile_data.specs.declared.profile.Child.{Child}
 use Rattle.aa_profile_data.specs.declared.profile.Profile.{Profile}
 use Rattle.aa_profile_data.specs.declared.profile.Rule.{Rule}
 use Rattle.aa_decide_rules.specs.Verdict.{verdict}
-use Rattle.aa_decide_rules.specs.declared.verdict.Mediation.{Mediation}
-use Rattle.aa_decide_audit.specs.declared.verdict.Verdict.{Verdict}
+use Rattle.aa_decide_rules.specs.declared.judgement.Mediation.{Mediation}
+use Rattle.aa_decide_rules.specs.declared.verdict.Verdict.{Verdict}
 
 -- the rules of a child or a hat; one that isn't there has none
 abbrev pub child_rules : Option Child → List Rule

@@ -1,11 +1,11 @@
 -- A profile, or a child or hat of it, by what it decides.
 use Rattle.std.specs.Prelude.{ℕ, Bool, List, Option}
-use Rattle.aa_profile_access.specs.Request.{Request}
+use Rattle.aa_profile_data.specs.Request.{Request}
 use Rattle.aa_profile_data.specs.declared.profile.Profile.{Profile}
 use Rattle.aa_profile_data.specs.declared.profile.Rule.{Rule}
 use Rattle.aa_decide_rules.specs.Verdict.{verdict}
-use Rattle.aa_decide_rules.specs.declared.verdict.Mediation.{Mediation}
-use Rattle.aa_decide_audit.specs.declared.verdict.Verdict.{Verdict}
+use Rattle.aa_decide_rules.specs.declared.judgement.Mediation.{Mediation}
+use Rattle.aa_decide_rules.specs.declared.verdict.Verdict.{Verdict}
 use Rattle.aa_decide_ready.specs.Ready.{audits, rules_at}
 use Rattle.aa_decide_ready.specs.Visits.{attachments_at}
 

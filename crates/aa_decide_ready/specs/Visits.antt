@@ -1,12 +1,12 @@
 -- The patterns of a profile's attachments, and how many steps and states its automata take.
 use Rattle.std.specs.Prelude.{◌≡◌, ◌≤◌, ℕ, List, [], Option, None, Some, slice_get}
-use Rattle.aa_profile_access.specs.Request.{Request, ForCapability, ForFile, ForSockets}
-use Rattle.aa_glob_automaton.specs.Visits.{IsReadOf}
+use Rattle.aa_profile_data.specs.Request.{Request, ForCapability, ForFile, ForSockets}
+use Rattle.aa_glob.specs.Visits.{IsReadOf}
 use Rattle.aa_profile_data.specs.declared.profile.Child.{Child}
 use Rattle.aa_profile_data.specs.declared.profile.Profile.{Profile}
 use Rattle.aa_profile_data.specs.declared.profile.Rule.{Rule}
-use Rattle.aa_glob_front.specs.Steps.{IsCounted, most_visits}
-use Rattle.aa_glob_front.specs.Visits.{CountsAllVisits, CountsFirstVisits}
+use Rattle.aa_glob_nfa.specs.Steps.{IsCounted, most_visits}
+use Rattle.aa_glob_nfa.specs.Visits.{CountsAllVisits, CountsFirstVisits}
 use Rattle.aa_glob_pattern.specs.Beginnings.{HasStates, most_states}
 use Rattle.aa_profile_data.specs.FileRules.{file_patterns}
 

@@ -1,11 +1,24 @@
-//! What is made ready of a profile: automata of its rules and of its attachments, by which it decides.
+//! What is made ready of a profile: automata of its rules and of its attachments, by which it decides; and loaded profiles with their states in slots, with
+//! what is kept beside these to find names and attachments without going over all.
 #![tactic(auto)]
 
+mod attachments;
+mod confinement;
+mod entry;
+mod indexed;
+mod names;
 mod part;
 mod ready;
 mod section;
+mod slots;
 
-pub use aa_glob_front::Steps;
+pub use aa_glob_nfa::Steps;
+pub use attachments::AttachmentIndex;
+pub use confinement::Confinement;
+pub use entry::{Entry, State};
+pub use indexed::IndexedSlots;
+pub use names::NameIndex;
 pub use part::{file_places, picked, with_files};
 pub use ready::Ready;
 pub use section::ReadySection;
+pub use slots::{entry_at, find_named, slots_named};

@@ -2,9 +2,9 @@
 
 ghost use Rattle.std.specs.Prelude.{◌≡◌, ◌++◌, ◌∷◌, [], ℕ, List, IfOk, OnOk};
 ghost use Rattle.std.specs.List.Sorted.{IsStrictlyIncreasing};
-ghost use Rattle.aa_glob_automaton.specs.Automata.{IsAutomatonOf};
+ghost use Rattle.aa_glob.specs.Automata.{IsAutomatonOf};
 ghost use Rattle.aa_glob_syntax.specs.Patterns.{AreMatching};
-ghost use Rattle.aa_glob_automaton.specs.Built.{IsBuilt};
+ghost use Rattle.aa_glob.specs.Built.{IsBuilt};
 ghost use Rattle.aa_glob_pattern.specs.Beginnings.{HasStates};
 ghost use Rattle.aa_decide_ready.specs.Visits.{AreAllVisitsOf, AreFewStates, AreVisitsOf};
 ghost use Rattle.aa_profile_data.specs.Matching.{AreMatchingRules};
@@ -13,8 +13,8 @@ ghost use Rattle.aa_profile_data.specs.FileRules.{places_from, file_patterns};
 ghost use Rattle.aa_profile_data.specs.Picked.{picked};
 
 use aa_bytes::Sequence;
-use aa_glob_automaton::{Automaton, AutomatonBuilder};
-use aa_glob_front::Steps;
+use aa_glob::{Automaton, AutomatonBuilder};
+use aa_glob_nfa::Steps;
 use aa_glob_pattern::Pattern;
 use aa_profile_data::{Child, Rule, which_rules_match};
 use std::alloc::{AllocError, Global};

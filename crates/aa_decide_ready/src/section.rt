@@ -12,15 +12,15 @@ ghost use Rattle.aa_profile_data.specs.FileRules.{file_patterns};
 ghost use Rattle.aa_profile_data.specs.Matching.{AreMatchingRules};
 ghost use Rattle.aa_decide_ready.specs.Ready.{rules_at};
 ghost use Rattle.aa_decide_rules.specs.Verdict.{is_for_file};
-ghost use Rattle.aa_profile_access.specs.SeenRequests.{request_of};
+ghost use Rattle.aa_profile_data.specs.SeenRequests.{request_of};
 
 use crate::ready::Ready;
-use aa_decide_audit::Verdict;
-use aa_decide_rules::{Mediation, found_verdict, rules_verdict, what_matching_rules_decide};
-use aa_glob_front::Steps;
+use aa_decide_rules::{
+    Mediation, Verdict, found_verdict, rules_verdict, what_matching_rules_decide,
+};
+use aa_glob_nfa::Steps;
 use aa_glob_pattern::{Pattern, how_many_states_there_are};
-use aa_profile_access::Request;
-use aa_profile_data::{Rule, which_rules_match};
+use aa_profile_data::{Request, Rule, which_rules_match};
 use std::alloc::{AllocError, Global};
 
 /// A profile that was made ready, or a child or hat of it: what it decides by, lent. One that isn't there has no rules and no attachments.

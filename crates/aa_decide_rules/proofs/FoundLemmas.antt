@@ -1,7 +1,7 @@
 -- Rules whose pattern is known to match say what they say when it is tried.
 use Rattle.std.proofs.Common.{◌≡◌, ℕ, Bool, true, false, List, [], ◌∷◌, refl, sym, ap, ◌∙◌}
 use Rattle.std.specs.List.{filter}
-use Rattle.aa_profile_access.specs.Request.{ForFile}
+use Rattle.aa_profile_data.specs.Request.{ForFile}
 use Rattle.aa_profile_data.specs.declared.profile.Rule.{Rule}
 use Rattle.aa_profile_data.specs.declared.profile.Rule.TheVariants.{Cap, File, Net, Other}
 use Rattle.aa_decide_rules.proofs.VerdictLemmas.{verdict-matching}
@@ -9,7 +9,7 @@ use Rattle.aa_profile_data.specs.Matching.{is_matching}
 use Rattle.aa_decide_rules.specs.Verdict.{allows, allows_aloud, covers, denied, denies, denies_aloud, granted, loud, verdict, with_covered}
 use Rattle.aa_decide_rules.specs.Found.{covers_found, found_mask, found_verdict, put_if}
 use Rattle.aa_decide_rules.specs.Found.{verdict_by}
-use Rattle.aa_decide_rules.specs.declared.verdict.Mediation.{Mediation}
+use Rattle.aa_decide_rules.specs.declared.judgement.Mediation.{Mediation}
 use Rattle.aa_profile_data.specs.Picked.{picked}
 
 module _ (letters : ℕ) (owned : Bool) (path : List ℕ) where

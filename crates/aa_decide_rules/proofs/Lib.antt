@@ -1,2 +1,9 @@
+pub mod AgreementLemmas
+pub mod BeginningLemmas
 pub mod FoundLemmas
+mod LineLemmas
+pub mod MatchingLemmas
+mod OrderLemmas
+pub mod RankLemmas
+pub mod SaidLemmas
 pub mod VerdictLemmas

@@ -8,8 +8,8 @@ use Rattle.std.proofs.lemmas.Bool.{cases_lt}
 use Rattle.std.proofs.lemmas.Bool.Decides.{nat_tests}
 use Rattle.std.proofs.lemmas.Nat.{and_le_r, le_or_r}
 use Rattle.std.proofs.lemmas.Nat.Bits.{bit_at-zero, bit_at_above, bit_at_and, bit_at_not, bit_at_ones, bit_at_or, same_from_bits}
-use Rattle.aa_profile_access.specs.Access.{union, without}
-use Rattle.aa_profile_access.specs.Request.{Request, ForFile}
+use Rattle.aa_profile_data.specs.Access.{union, without}
+use Rattle.aa_profile_data.specs.Request.{Request, ForFile}
 use Rattle.aa_profile_data.specs.declared.profile.Rule.{Rule}
 use Rattle.aa_profile_data.specs.declared.profile.Rule.TheVariants.{Cap, File, Net, Other}
 use Rattle.aa_profile_data.specs.Matching.{is_matching}
@@ -17,11 +17,11 @@ use Rattle.aa_decide_rules.specs.Verdict.{allows, allows_aloud, applies, audited
 use Rattle.aa_decide_rules.specs.Found.{verdict_by}
 use Rattle.aa_profile_data.specs.Picked.{picked}
 use Rattle.aa_decide_rules.specs.VerdictLaws.{in_complain}
-use Rattle.aa_decide_rules.specs.declared.verdict.Mediation.{Mediation}
-use Rattle.aa_decide_rules.specs.declared.verdict.Mediation.TheVariants.{Complaining, Enforcing}
+use Rattle.aa_decide_rules.specs.declared.judgement.Mediation.{Mediation}
+use Rattle.aa_decide_rules.specs.declared.judgement.Mediation.TheVariants.{Complaining, Enforcing}
 use Rattle.aa_profile_data.specs.SameRules.{HaveSameRules}
-use Rattle.aa_decide_audit.specs.declared.verdict.Answer.TheVariants.{Allow, Complain, Deny, Refuse}
-use Rattle.aa_decide_audit.specs.declared.verdict.Tag.TheVariants.{Allowed, Denied}
+use Rattle.aa_decide_rules.specs.declared.verdict.Answer.TheVariants.{Allow, Complain, Deny, Refuse}
+use Rattle.aa_decide_rules.specs.declared.verdict.Tag.TheVariants.{Allowed, Denied}
 use Rattle.std.proofs.lemmas.List.{drop_more}
 
 -- what is in either of two sets, or in a third

@@ -1,14 +1,14 @@
 -- What rules say of a request for a file of which it is known that their pattern matches its path: a verdict by the rules that match, whatever the path.
 use Rattle.std.specs.Prelude.{ℕ, Bool, not, ◌||◌, ◌==◌, if◌then◌else◌, List, fold}
-use Rattle.aa_profile_access.specs.Access.{common, union, without}
-use Rattle.aa_profile_access.specs.Request.{Request}
+use Rattle.aa_profile_data.specs.Access.{common, union, without}
+use Rattle.aa_profile_data.specs.Request.{Request}
 use Rattle.aa_profile_data.specs.declared.profile.Rule.{Rule}
 use Rattle.aa_profile_data.specs.declared.profile.Rule.TheVariants.{Cap, File, Net, Other}
 use Rattle.aa_decide_rules.specs.Verdict.{allows, allows_aloud, covered_by_file, denies, denies_aloud, logged, needs, when_missing}
-use Rattle.aa_decide_audit.specs.declared.verdict.Answer.TheVariants.{Allow, Deny}
-use Rattle.aa_decide_audit.specs.declared.verdict.Tag.TheVariants.{Audit, Denied}
-use Rattle.aa_decide_audit.specs.declared.verdict.Verdict.{Verdict}
-use Rattle.aa_decide_rules.specs.declared.verdict.Mediation.{Mediation}
+use Rattle.aa_decide_rules.specs.declared.verdict.Answer.TheVariants.{Allow, Deny}
+use Rattle.aa_decide_rules.specs.declared.verdict.Tag.TheVariants.{Audit, Denied}
+use Rattle.aa_decide_rules.specs.declared.verdict.Verdict.{Verdict}
+use Rattle.aa_decide_rules.specs.declared.judgement.Mediation.{Mediation}
 
 -- the verdict where deny rules cover these needs, audited ones those, and allow rules and audited ones these
 abbrev pub verdict_by : Mediation → Request → ℕ → ℕ → ℕ → ℕ → Verdict

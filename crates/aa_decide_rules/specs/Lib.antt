@@ -1,3 +1,13 @@
+pub mod Answer
+pub mod Choices
+pub mod ExecRules
 pub mod Found
+pub mod Laws
+pub mod LogLines
+pub mod RankLaws
+pub mod Ranks
+pub mod SeenChoices
+pub mod StandingOut
 pub mod Verdict
 pub mod VerdictLaws
+pub mod code

@@ -1,21 +1,21 @@
 -- What rules say of a request: cover, applicability, masks and the verdict (apparmor.d(5), "Rule Qualifiers", "Access Permission
 -- Accumulation", "Capability Rules" and "Network Rules"; see docs/policy.md). Requests of all kinds are decided alike, by sets of needs.
 use Rattle.std.specs.Prelude.{ℕ, Bool, false, true, not, ◌-◌, ◌&&◌, ◌||◌, ◌==◌, if◌then◌else◌, List, fold, None, Some, is_some}
-use Rattle.aa_profile_access.specs.Request.{Request, ForCapability, ForFile, ForSockets}
+use Rattle.aa_profile_data.specs.Request.{Request, ForCapability, ForFile, ForSockets}
 use Rattle.aa_glob_syntax.specs.Matching.{matches}
 use Rattle.aa_glob_syntax.specs.Reading.{items_of}
-use Rattle.aa_profile_access.specs.Access.{EXEC, all_letters, common, union, without, covered}
+use Rattle.aa_profile_data.specs.Access.{EXEC, all_letters, common, union, without, covered}
 use Rattle.aa_profile_data.specs.Cover.{covers_capability, covers_socket}
 use Rattle.aa_profile_data.specs.declared.profile.FileRule.{FileRule}
 use Rattle.aa_profile_data.specs.declared.profile.Rule.{Rule}
 use Rattle.aa_profile_data.specs.declared.profile.Rule.TheVariants.{Cap, File, Net, Other}
-use Rattle.aa_decide_audit.specs.declared.verdict.Answer.{Answer}
-use Rattle.aa_decide_audit.specs.declared.verdict.Answer.TheVariants.{Allow, Complain, Deny, Refuse}
-use Rattle.aa_decide_audit.specs.declared.verdict.Tag.{Tag}
-use Rattle.aa_decide_audit.specs.declared.verdict.Tag.TheVariants.{Allowed, Audit, Denied}
-use Rattle.aa_decide_audit.specs.declared.verdict.Verdict.{Verdict}
-use Rattle.aa_decide_rules.specs.declared.verdict.Mediation.{Mediation}
-use Rattle.aa_decide_rules.specs.declared.verdict.Mediation.TheVariants.{Complaining, Enforcing}
+use Rattle.aa_decide_rules.specs.declared.verdict.Answer.{Answer}
+use Rattle.aa_decide_rules.specs.declared.verdict.Answer.TheVariants.{Allow, Complain, Deny, Refuse}
+use Rattle.aa_decide_rules.specs.declared.verdict.Tag.{Tag}
+use Rattle.aa_decide_rules.specs.declared.verdict.Tag.TheVariants.{Allowed, Audit, Denied}
+use Rattle.aa_decide_rules.specs.declared.verdict.Verdict.{Verdict}
+use Rattle.aa_decide_rules.specs.declared.judgement.Mediation.{Mediation}
+use Rattle.aa_decide_rules.specs.declared.judgement.Mediation.TheVariants.{Complaining, Enforcing}
 
 -- The need of a request that isn't for a file: there is one, and it is no letter.
 abbrev pub the_need : ℕ

@@ -1,9 +1,9 @@
 -- Words that the laws of verdicts are said in.
 use Rattle.std.specs.Prelude.{Some}
-use Rattle.aa_decide_audit.specs.declared.verdict.Answer.{Answer}
-use Rattle.aa_decide_audit.specs.declared.verdict.Answer.TheVariants.{Complain, Refuse}
-use Rattle.aa_decide_audit.specs.declared.verdict.Tag.TheVariants.{Allowed}
-use Rattle.aa_decide_audit.specs.declared.verdict.Verdict.{Verdict}
+use Rattle.aa_decide_rules.specs.declared.verdict.Answer.{Answer}
+use Rattle.aa_decide_rules.specs.declared.verdict.Answer.TheVariants.{Complain, Refuse}
+use Rattle.aa_decide_rules.specs.declared.verdict.Tag.TheVariants.{Allowed}
+use Rattle.aa_decide_rules.specs.declared.verdict.Verdict.{Verdict}
 
 -- what complain mode says where enforce mode says this
 abbrev pub complained : Answer → Verdict → Verdict

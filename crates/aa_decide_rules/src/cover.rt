@@ -1,11 +1,10 @@
 //! What a request needs, and what a rule covers of it.
 
 ghost use Rattle.std.specs.Prelude.{◌≡◌};
-ghost use Rattle.aa_profile_access.specs.SeenRequests.{request_of};
+ghost use Rattle.aa_profile_data.specs.SeenRequests.{request_of};
 ghost use Rattle.aa_decide_rules.specs.Verdict.{applies, covered_by, covered_by_file, covers, denies, is_audited, needs, the_need};
 
-use aa_profile_access::{Perms, Request};
-use aa_profile_data::{FileRule, Rule};
+use aa_profile_data::{FileRule, Perms, Request, Rule};
 use bitflags::Flags;
 
 // The need of a request that isn't for a file: there is one, and it is no letter.

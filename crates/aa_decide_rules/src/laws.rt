@@ -2,18 +2,18 @@
 
 ghost use Rattle.std.specs.Prelude.{◌≡◌, ℕ, Bool, List, true, false, ◌∷◌};
 ghost use Rattle.std.specs.List.Sorted.{IsStrictlyIncreasing};
-ghost use Rattle.aa_profile_access.specs.Request.{ForFile, Request};
+ghost use Rattle.aa_profile_data.specs.Request.{ForFile, Request};
 ghost use Rattle.aa_profile_data.specs.Matching.{AreMatchingRules};
 ghost use Rattle.aa_profile_data.specs.Picked.{picked};
 ghost use Rattle.aa_profile_data.specs.SameRules.{HaveSameRules};
 ghost use Rattle.aa_profile_data.specs.declared.profile.Rule.{Rule};
-ghost use Rattle.aa_decide_audit.specs.LogLines.{log_line};
+ghost use Rattle.aa_decide_rules.specs.LogLines.{log_line};
 ghost use Rattle.aa_decide_rules.specs.Found.{found_verdict};
 ghost use Rattle.aa_decide_rules.specs.Verdict.{denies, verdict};
 ghost use Rattle.aa_decide_rules.specs.VerdictLaws.{in_complain};
-ghost use Rattle.aa_decide_rules.specs.declared.verdict.Mediation.{Mediation};
-ghost use Rattle.aa_decide_rules.specs.declared.verdict.Mediation.TheVariants.{Complaining, Enforcing};
-ghost use Rattle.aa_decide_audit.specs.declared.verdict.Answer.TheVariants.{Allow};
+ghost use Rattle.aa_decide_rules.specs.declared.judgement.Mediation.{Mediation};
+ghost use Rattle.aa_decide_rules.specs.declared.judgement.Mediation.TheVariants.{Complaining, Enforcing};
+ghost use Rattle.aa_decide_rules.specs.declared.verdict.Answer.TheVariants.{Allow};
 
 use aa_profile_data::which_rules_match;
 

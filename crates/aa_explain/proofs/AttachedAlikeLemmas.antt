@@ -9,11 +9,11 @@ use Rattle.std.proofs.lemmas.Option.{slice_get_within}
 use Rattle.aa_decide.specs.Attachment.{attached, attached_child}
 use Rattle.aa_decide.specs.Exec.{entry_asker}
 use Rattle.aa_decide.specs.ExecLaws.{FitsBest, HaveDistinctNames}
-use Rattle.aa_decide_attachment.specs.RankLaws.{StandsOut}
-use Rattle.aa_decide_attachment.specs.Ranks.{best_rank}
-use Rattle.aa_decide_attachment.specs.StandingOut.{standing_out}
-use Rattle.aa_decide_slots.specs.Entries.{Loaded}
-use Rattle.aa_decide_slots.specs.Named.{entry_named}
+use Rattle.aa_decide_rules.specs.RankLaws.{StandsOut}
+use Rattle.aa_decide_rules.specs.Ranks.{best_rank}
+use Rattle.aa_decide_rules.specs.StandingOut.{standing_out}
+use Rattle.aa_decide_ready.specs.Entries.{Loaded}
+use Rattle.aa_decide_ready.specs.Named.{entry_named}
 use Rattle.aa_decide_ready.specs.Visits.{attachments_at, child_attachments}
 use Rattle.aa_explain.proofs.NamedLemmas.{named-is, named-there, placed-is, placed-there}
 use Rattle.aa_explain.proofs.PatternLemmas.{same-rank}

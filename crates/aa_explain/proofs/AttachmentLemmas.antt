@@ -3,9 +3,9 @@ use Rattle.std.proofs.Common.{◌≡◌, ◌∙◌, ℕ, suc, ◌+◌, ◌==◌,
 use Rattle.std.specs.Prelude.{◌↔◌, if◌then◌else◌, option_and_then, slice_get}
 use Rattle.std.proofs.lemmas.Bool.{eq-eqb, eqb-true}
 use Rattle.aa_decide.specs.Attachment.{attached, attached_child, entry_rank}
-use Rattle.aa_decide_attachment.specs.Ranks.{best_rank}
-use Rattle.aa_decide_attachment.specs.StandingOut.{greatest, standing_out}
-use Rattle.aa_decide_slots.specs.Entries.{Loaded, is_in_force}
+use Rattle.aa_decide_rules.specs.Ranks.{best_rank}
+use Rattle.aa_decide_rules.specs.StandingOut.{greatest, standing_out}
+use Rattle.aa_decide_ready.specs.Entries.{Loaded, is_in_force}
 use Rattle.aa_decide_ready.specs.Visits.{child_attachments}
 use Rattle.aa_profile_data.specs.declared.profile.Child.{Child}
 use Rattle.aa_explain.specs.Standings.{is_the_one, standing_of}

@@ -5,18 +5,18 @@ use Rattle.std.specs.Option.{option_map}
 use Rattle.aa_decide.specs.Attachment.{attached, attached_child}
 use Rattle.aa_decide.specs.Exec.{Asker, Base, OnProfile, Stacked, Started, Under, are_in_force, base_of, by_full_name, entry_asker, fallback_base, led, led_by}
 use Rattle.aa_decide.specs.Exec.{led_by_word, named_stack, place_of_child, stacked_on, to_child, to_profile, to_stack, under}
-use Rattle.aa_decide_slots.specs.Entries.{Loaded, is_in_force}
-use Rattle.aa_decide_slots.specs.Named.{entry_named}
+use Rattle.aa_decide_ready.specs.Entries.{Loaded, is_in_force}
+use Rattle.aa_decide_ready.specs.Named.{entry_named}
 use Rattle.aa_explain.proofs.AttachedAlikeLemmas.{FitLaw, RankLaw, attached-twin, child-twin}
 use Rattle.aa_explain.proofs.NamedLemmas.{asker-named, force-named, if_in_force, named-is}
 use Rattle.aa_explain.proofs.TwinLemmas.{child_at, children-named, entries-named, itself, policies-back, same-force, twin-child, twin-entry}
 use Rattle.aa_explain.specs.AlikePolicies.{AreAlikePolicies, AreThereAlike, HaveOneName, RunAlike, StandAlike}
-use Rattle.aa_profile_access.specs.ExecWords.{row}
-use Rattle.aa_profile_access.specs.FullNames.{full_name}
-use Rattle.aa_profile_access.specs.Stacks.{Stack}
-use Rattle.aa_profile_access.specs.declared.exec_word.Destination.{Destination}
-use Rattle.aa_profile_access.specs.declared.exec_word.Destination.TheVariants as to
-use Rattle.aa_profile_access.specs.declared.exec_word.ExecWord.{ExecWord}
+use Rattle.aa_profile_data.specs.ExecWords.{row}
+use Rattle.aa_profile_data.specs.FullNames.{full_name}
+use Rattle.aa_profile_data.specs.Stacks.{Stack}
+use Rattle.aa_profile_data.specs.declared.exec_word.Destination.{Destination}
+use Rattle.aa_profile_data.specs.declared.exec_word.Destination.TheVariants as to
+use Rattle.aa_profile_data.specs.declared.exec_word.ExecWord.{ExecWord}
 use Rattle.aa_profile_data.specs.Profile.{are_distinct_children, child_place}
 use Rattle.aa_profile_data.specs.declared.profile.Transition.{Transition}
 

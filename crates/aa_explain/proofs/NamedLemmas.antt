@@ -12,10 +12,10 @@ use Rattle.std.proofs.lemmas.Option.{slice_get-get_or}
 use Rattle.std.proofs.lemmas.Slice.Eq.{bytes_eq-Decides}
 use Rattle.aa_decide.specs.Exec.{Asker, entry_asker, named_asker, named_in_force}
 use Rattle.aa_decide.specs.ExecLaws.{HaveDistinctNames}
-use Rattle.aa_decide_slots.specs.Entries.{Loaded, is_in_force}
-use Rattle.aa_decide_slots.specs.Named.{entry_named, profiles_of}
+use Rattle.aa_decide_ready.specs.Entries.{Loaded, is_in_force}
+use Rattle.aa_decide_ready.specs.Named.{entry_named, profiles_of}
 use Rattle.aa_explain.specs.NamedAskers.{IsChildNamed, IsNamed}
-use Rattle.aa_profile_access.specs.FullNames.{FullName}
+use Rattle.aa_profile_data.specs.FullNames.{FullName}
 use Rattle.aa_profile_data.specs.Profile.{are_distinct, are_distinct_children, child_place, is_child_named, is_named}
 use Rattle.aa_profile_data.specs.declared.profile.Child.{Child}
 

@@ -3,7 +3,7 @@ use Rattle.std.proofs.Common.{◌≡◌, ℕ, zero, suc, ◌≤◌, Bool, true, 
 use Rattle.std.specs.Prelude.{fold, if◌then◌else◌, nat_le}
 use Rattle.std.specs.List.{Contains}
 use Rattle.std.proofs.lemmas.Bool.{leb-false, leb-true}
-use Rattle.aa_decide_attachment.specs.Ranks.{best_rank, greater, rank}
+use Rattle.aa_decide_rules.specs.Ranks.{best_rank, greater, rank}
 use Rattle.aa_explain_diff.specs.Alike.{HaveSameTexts}
 
 -- the greater of two is below neither, and not above what is above both

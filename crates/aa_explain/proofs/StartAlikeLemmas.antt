@@ -5,23 +5,23 @@ use Rattle.std.specs.List.{All}
 use Rattle.aa_decide.specs.Attachment.{attached}
 use Rattle.aa_decide.specs.Exec.{Asker, ExecAnswer, Started, Unconfined, by_choice, confined_start, exec_answer, led_by, missing, started}
 use Rattle.aa_decide.specs.Exec.{own_start, unconfined_start, under}
-use Rattle.aa_decide_exec_rules.specs.Choices.{Choice, Denied as DeniedByRule, Leads, Missing, choice}
+use Rattle.aa_decide_rules.specs.Choices.{Choice, Denied as DeniedByRule, Leads, Missing, choice}
 use Rattle.aa_decide_rules.specs.Verdict.{verdict}
-use Rattle.aa_decide_rules.specs.declared.verdict.Mediation.{Mediation}
-use Rattle.aa_decide_rules.specs.declared.verdict.Mediation.TheVariants.{Complaining, Enforcing}
-use Rattle.aa_decide_slots.specs.Confinement.{confined as confined_in, in_state, mode_at}
-use Rattle.aa_decide_slots.specs.Entries.{Loaded}
+use Rattle.aa_decide_rules.specs.declared.judgement.Mediation.{Mediation}
+use Rattle.aa_decide_rules.specs.declared.judgement.Mediation.TheVariants.{Complaining, Enforcing}
+use Rattle.aa_decide_ready.specs.Confinement.{confined as confined_in, in_state, mode_at}
+use Rattle.aa_decide_ready.specs.Entries.{Loaded}
 use Rattle.aa_decide_ready.specs.Ready.{audits, decided, rules_at}
 use Rattle.aa_decide_ready.specs.Sections.{section_at}
-use Rattle.aa_decide_slots.specs.declared.entry.State.{State}
-use Rattle.aa_decide_slots.specs.declared.entry.State.TheVariants.{Disabled, Modes}
+use Rattle.aa_decide_ready.specs.declared.entry.State.{State}
+use Rattle.aa_decide_ready.specs.declared.entry.State.TheVariants.{Disabled, Modes}
 use Rattle.aa_explain.proofs.AttachedAlikeLemmas.{FitLaw, RankLaw}
 use Rattle.aa_explain.proofs.LedAlikeLemmas.{LeadAlike, attached-alike, transition-alike, under_it}
 use Rattle.aa_explain.proofs.NamedLemmas.{asker-named, named-is}
 use Rattle.aa_explain.proofs.TwinLemmas.{same-confined}
 use Rattle.aa_explain.specs.AlikePolicies.{AreAlikePolicies, AreConfinedAlike, AskAlike, HaveOneName, HaveReadRules, StartAlike, mode_in}
-use Rattle.aa_profile_access.specs.Request.{Request}
-use Rattle.aa_profile_access.specs.ExecWords.{row}
+use Rattle.aa_profile_data.specs.Request.{Request}
+use Rattle.aa_profile_data.specs.ExecWords.{row}
 use Rattle.aa_profile_data.specs.ConflictLaws.{HasReadPattern}
 use Rattle.aa_profile_data.specs.Conflicts.{agree}
 use Rattle.aa_profile_data.specs.SameRules.{HaveSameRules}

@@ -5,16 +5,16 @@ use Rattle.aa_profile_data.specs.declared.profile.Mode.TheVariants.{Complain, En
 use Rattle.aa_profile_data.specs.declared.profile.Profile.{Profile}
 use Rattle.aa_decide.specs.Exec.{Asker, Under, by_choice, confined_start, exec_answer, missing as missing_start, own_start, unconfined_start}
 use Rattle.aa_decide.specs.Attachment.{attached}
-use Rattle.aa_decide_audit.specs.declared.verdict.Answer.TheVariants.{Allow}
-use Rattle.aa_decide_exec_rules.specs.Choices.{Leads, Missing, choice}
+use Rattle.aa_decide_rules.specs.declared.verdict.Answer.TheVariants.{Allow}
+use Rattle.aa_decide_rules.specs.Choices.{Leads, Missing, choice}
 use Rattle.aa_decide_ready.specs.Ready.{audits, rules_at}
 use Rattle.aa_decide_ready.specs.Sections.{Section, section_at}
-use Rattle.aa_decide_rules.specs.declared.verdict.Mediation.{Mediation}
-use Rattle.aa_decide_rules.specs.declared.verdict.Mediation.TheVariants.{Complaining, Enforcing}
-use Rattle.aa_decide_slots.specs.Confinement.{By, confined, in_state, mode_at}
-use Rattle.aa_decide_slots.specs.Entries.{Loaded}
-use Rattle.aa_decide_slots.specs.declared.entry.State.{State}
-use Rattle.aa_decide_slots.specs.declared.entry.State.TheVariants.{Disabled, Modes}
+use Rattle.aa_decide_rules.specs.declared.judgement.Mediation.{Mediation}
+use Rattle.aa_decide_rules.specs.declared.judgement.Mediation.TheVariants.{Complaining, Enforcing}
+use Rattle.aa_decide_ready.specs.Confinement.{By, confined, in_state, mode_at}
+use Rattle.aa_decide_ready.specs.Entries.{Loaded}
+use Rattle.aa_decide_ready.specs.declared.entry.State.{State}
+use Rattle.aa_decide_ready.specs.declared.entry.State.TheVariants.{Disabled, Modes}
 use Rattle.aa_explain.specs.StartLaws.{AsksRules}
 use Rattle.aa_explain_rules.specs.Missing.{inherit}
 

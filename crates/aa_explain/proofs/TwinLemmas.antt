@@ -4,14 +4,14 @@ use Rattle.std.specs.Prelude.{if◌then◌else◌}
 use Rattle.std.specs.Option.{option_map}
 use Rattle.aa_decide.specs.Attachment.{entry_rank}
 use Rattle.aa_decide.specs.Exec.{Asker, entry_asker, named_asker}
-use Rattle.aa_decide_slots.specs.Entries.{Loaded, is_in_force}
-use Rattle.aa_decide_slots.specs.Named.{entry_named}
-use Rattle.aa_decide_slots.specs.declared.entry.State.{State}
-use Rattle.aa_decide_slots.specs.declared.entry.State.TheVariants.{Disabled, Modes}
+use Rattle.aa_decide_ready.specs.Entries.{Loaded, is_in_force}
+use Rattle.aa_decide_ready.specs.Named.{entry_named}
+use Rattle.aa_decide_ready.specs.declared.entry.State.{State}
+use Rattle.aa_decide_ready.specs.declared.entry.State.TheVariants.{Disabled, Modes}
 use Rattle.aa_explain.proofs.NamedLemmas.{asker-named, child-named, profile-named}
 use Rattle.aa_explain.proofs.PatternLemmas.{same-rank}
 use Rattle.aa_explain.specs.AlikePolicies.{AreAlikePolicies, AreConfinedAlike, AreThereAlike, HaveOneName, mode_in}
-use Rattle.aa_profile_access.specs.FullNames.{FullName}
+use Rattle.aa_profile_data.specs.FullNames.{FullName}
 use Rattle.aa_profile_data.specs.Profile.{child_place}
 use Rattle.aa_profile_data.specs.declared.profile.Mode.{Mode}
 

@@ -3,14 +3,14 @@ use Rattle.std.specs.Prelude.{◌≡◌, ℕ, true, List, Option, None, Some}
 use Rattle.std.specs.List.{All, Contains}
 use Rattle.aa_decide.specs.Exec.{Asker, Base, ExecAnswer, Nowhere, Null, OnProfile, OnUnconfined, Stacked, Started, Unconfined, Under, named_asker}
 use Rattle.aa_decide.specs.ExecLaws.{HaveDistinctNames}
-use Rattle.aa_decide_slots.specs.Confinement.{mode_at}
-use Rattle.aa_decide_slots.specs.Entries.{Loaded}
+use Rattle.aa_decide_ready.specs.Confinement.{mode_at}
+use Rattle.aa_decide_ready.specs.Entries.{Loaded}
 use Rattle.aa_decide_ready.specs.Ready.{audits, rules_at}
 use Rattle.aa_decide_ready.specs.Visits.{attachments_at}
-use Rattle.aa_decide_slots.specs.declared.entry.State.{State}
-use Rattle.aa_decide_slots.specs.declared.entry.State.TheVariants.{Disabled, Modes}
+use Rattle.aa_decide_ready.specs.declared.entry.State.{State}
+use Rattle.aa_decide_ready.specs.declared.entry.State.TheVariants.{Disabled, Modes}
 use Rattle.aa_explain_diff.specs.Alike.{HaveSameTexts}
-use Rattle.aa_profile_access.specs.FullNames.{FullName}
+use Rattle.aa_profile_data.specs.FullNames.{FullName}
 use Rattle.aa_profile_data.specs.ConflictLaws.{HasReadPattern}
 use Rattle.aa_profile_data.specs.Conflicts.{agree}
 use Rattle.aa_profile_data.specs.Profile.{are_distinct_children}

@@ -1,7 +1,7 @@
 -- Profiles and children that a path may be attached to, and how well each fits it (docs/policy.md, "Attachment").
 use Rattle.std.specs.Prelude.{ℕ, ◌+◌, ◌==◌, if◌then◌else◌, find, List, [], ◌∷◌, map, Option, None, Some}
-use Rattle.aa_decide_attachment.specs.Ranks.{best_rank, rank}
-use Rattle.aa_decide_slots.specs.Entries.{Loaded, is_in_force}
+use Rattle.aa_decide_rules.specs.Ranks.{best_rank, rank}
+use Rattle.aa_decide_ready.specs.Entries.{Loaded, is_in_force}
 use Rattle.aa_decide_ready.specs.Visits.{attachments_at}
 use Rattle.aa_profile_data.specs.declared.profile.Child.{Child}
 use Rattle.aa_explain.specs.declared.candidates.Candidate.{Candidate as CodeCandidate}

@@ -3,11 +3,11 @@ use Rattle.std.specs.Prelude.{ℕ, Bool, List, Option, None, option_and_then}
 use Rattle.std.specs.Option.{option_map}
 use Rattle.aa_decide.specs.Exec.{Asker, Started, led, led_by_word}
 use Rattle.aa_decide.specs.SeenExec.{IsDestination, seen_to}
-use Rattle.aa_decide_audit.specs.declared.exec_verdict.ExecTo.{ExecTo}
-use Rattle.aa_decide_exec_rules.specs.Choices.{choice}
-use Rattle.aa_decide_slots.specs.Confinement.{By, ByName, Confinement, Unconfined, in_state}
-use Rattle.aa_decide_slots.specs.Entries.{Loaded}
-use Rattle.aa_profile_access.specs.ExecWords.{row}
+use Rattle.aa_decide_rules.specs.declared.exec_verdict.ExecTo.{ExecTo}
+use Rattle.aa_decide_rules.specs.Choices.{choice}
+use Rattle.aa_decide_ready.specs.Confinement.{By, ByName, Confinement, Unconfined, in_state}
+use Rattle.aa_decide_ready.specs.Entries.{Loaded}
+use Rattle.aa_profile_data.specs.ExecWords.{row}
 use Rattle.aa_profile_data.specs.declared.profile.Transition.{Transition}
 use Rattle.aa_explain_rules.specs.Leading.{chosen_transition}
 use Rattle.aa_explain.specs.declared.leads.Lead.{Lead as CodeLead}

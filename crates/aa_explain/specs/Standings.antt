@@ -1,6 +1,6 @@
 -- How those come out that a path may be attached to.
 use Rattle.std.specs.Prelude.{ℕ, Bool, false, ◌==◌, if◌then◌else◌, List, Option, None, Some}
-use Rattle.aa_decide_attachment.specs.StandingOut.{greatest, standing_out}
+use Rattle.aa_decide_rules.specs.StandingOut.{greatest, standing_out}
 use Rattle.aa_explain.specs.declared.standing.Standing.{Standing}
 use Rattle.aa_explain.specs.declared.standing.Standing.TheVariants.{Attached, Lost, Tied}
 

@@ -2,8 +2,8 @@
 use Rattle.std.specs.Prelude.{◌≡◌}
 use Rattle.aa_decide.specs.Exec.{Asker}
 use Rattle.aa_decide_ready.specs.Sections.{Section}
-use Rattle.aa_decide_rules.specs.declared.verdict.Mediation.{Mediation}
-use Rattle.aa_decide_slots.specs.Confinement.{By, in_state}
+use Rattle.aa_decide_rules.specs.declared.judgement.Mediation.{Mediation}
+use Rattle.aa_decide_ready.specs.Confinement.{By, in_state}
 
 -- the rules of who asks are asked: the profile is in force, and who asks isn't in mode unconfined
 abbrev pub AsksRules : Asker → Type 0

@@ -3,17 +3,16 @@
 ghost use Rattle.std.specs.Prelude.{◌≡◌, ◌<◌, ◌^◌, ℕ, Bool, List, Option, Some};
 ghost use Rattle.std.specs.List.{All};
 ghost use Rattle.aa_decide.specs.Exec.{Asker, exec_answer, named_asker};
-ghost use Rattle.aa_decide_slots.specs.Entries.{Loaded};
+ghost use Rattle.aa_decide_ready.specs.Entries.{Loaded};
 ghost use Rattle.aa_decide_ready.specs.Ready.{decided};
-ghost use Rattle.aa_decide_rules.specs.declared.verdict.Mediation.{Mediation};
+ghost use Rattle.aa_decide_rules.specs.declared.judgement.Mediation.{Mediation};
 ghost use Rattle.aa_explain.specs.AlikePolicies.{AreAlikePolicies, AreConfinedAlike, AskAlike, HaveReadRules, StartAlike};
 ghost use Rattle.aa_explain.specs.NamedAskers.{IsNamed};
-ghost use Rattle.aa_profile_access.specs.FullNames.{FullName};
-ghost use Rattle.aa_profile_access.specs.Request.{Request};
+ghost use Rattle.aa_profile_data.specs.FullNames.{FullName};
+ghost use Rattle.aa_profile_data.specs.Request.{Request};
 
 use aa_decide::{what_rules_decide, where_programs_run};
-use aa_decide_attachment::which_rank_stands_out;
-use aa_decide_exec_rules::order_changes_no_choice;
+use aa_decide_rules::{order_changes_no_choice, which_rank_stands_out};
 
 /// Who has a full name is of a profile that is loaded and has its first part, and is that profile, or the child or hat of it that has the second
 /// part. So a full name is known by who has it.

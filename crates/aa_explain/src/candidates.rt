@@ -1,12 +1,12 @@
 //! Profiles and children that a path may be attached to.
 
 ghost use Rattle.std.specs.Prelude.{◌≡◌, IfOk, None, map};
-ghost use Rattle.aa_decide_slots.specs.Slots.{filled};
+ghost use Rattle.aa_decide_ready.specs.Slots.{filled};
 ghost use Rattle.aa_explain.specs.Candidates.{child_candidates, children_from, patterns_of, profile_candidates};
 ghost use Rattle.aa_explain.specs.Candidates.{rank_of, seen_candidate, seen_candidates};
 
-use aa_decide_attachment::rank_of_best;
-use aa_decide_slots::Entry;
+use aa_decide_ready::Entry;
+use aa_decide_rules::rank_of_best;
 use aa_glob_pattern::Pattern;
 use aa_profile_data::Child;
 use std::alloc::{AllocError, Global};

@@ -2,16 +2,16 @@
 //! proved to follow.
 
 ghost use Rattle.std.specs.Prelude.{◌++◌, ◌↔◌, ◌∷◌, ◌≡◌, ◌≢◌, [], Bool, List, Some, map, option_and_then, slice_get, true, ℕ};
-ghost use Rattle.aa_profile_access.specs.Access.{EXEC, has};
-ghost use Rattle.aa_profile_access.specs.Request.{ForFile};
+ghost use Rattle.aa_profile_data.specs.Access.{EXEC, has};
+ghost use Rattle.aa_profile_data.specs.Request.{ForFile};
 ghost use Rattle.aa_profile_data.specs.declared.profile.FileRule.{FileRule};
 ghost use Rattle.aa_profile_data.specs.declared.profile.Rule.{Rule};
 ghost use Rattle.aa_profile_data.specs.declared.profile.Rule.TheVariants.{File};
 ghost use Rattle.aa_decide.specs.Attachment.{attached, attached_child};
 ghost use Rattle.aa_decide.specs.Exec.{Asker, Under, exec_answer};
-ghost use Rattle.aa_decide_attachment.specs.StandingOut.{standing_out};
-ghost use Rattle.aa_decide_audit.specs.declared.verdict.Answer.TheVariants.{Allow};
-ghost use Rattle.aa_decide_slots.specs.Entries.{Loaded};
+ghost use Rattle.aa_decide_rules.specs.StandingOut.{standing_out};
+ghost use Rattle.aa_decide_rules.specs.declared.verdict.Answer.TheVariants.{Allow};
+ghost use Rattle.aa_decide_ready.specs.Entries.{Loaded};
 ghost use Rattle.aa_decide_ready.specs.Ready.{rules_at};
 ghost use Rattle.aa_explain.specs.Candidates.{child_candidates, profile_candidates, rank_of};
 ghost use Rattle.aa_explain.specs.Standings.{standing_of};

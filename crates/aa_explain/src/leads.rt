@@ -4,9 +4,9 @@ ghost use Rattle.std.specs.Prelude.{◌≡◌, IfOk, IfSome, option_and_then};
 ghost use Rattle.std.specs.Option.{option_map};
 ghost use Rattle.aa_decide.specs.Exec.{led, led_by_word};
 ghost use Rattle.aa_decide.specs.SeenExec.{IsIn, seen_asker};
-ghost use Rattle.aa_decide_exec_rules.specs.SeenChoices.{seen_choice};
-ghost use Rattle.aa_decide_slots.specs.Slots.{filled};
-ghost use Rattle.aa_profile_access.specs.ExecWords.{row};
+ghost use Rattle.aa_decide_rules.specs.SeenChoices.{seen_choice};
+ghost use Rattle.aa_decide_ready.specs.Slots.{filled};
+ghost use Rattle.aa_profile_data.specs.ExecWords.{row};
 ghost use Rattle.aa_explain.specs.Leads.{IsThere, LeadsThere, lead_by, lead_of, seen_destination, seen_lead};
 ghost use Rattle.aa_explain_rules.specs.Leading.{chosen_transition};
 
@@ -14,8 +14,7 @@ use aa_bytes::SharedBytes;
 use aa_decide::{
     Asker, Confinement, ExecChoice, ExecTo, IndexedSlots, choice_of, led, led_by_word,
 };
-use aa_profile_access::Destination;
-use aa_profile_data::Transition;
+use aa_profile_data::{Destination, Transition};
 use std::alloc::{AllocError, Global};
 
 /// Where the rules of who asks lead a program that is started.

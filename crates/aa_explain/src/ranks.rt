@@ -4,7 +4,7 @@ ghost use Rattle.std.specs.Prelude.{◌≡◌};
 ghost use Rattle.std.specs.Option.{option_map};
 ghost use Rattle.aa_explain.specs.Candidates.{best_pattern, with_rank};
 
-use aa_decide_attachment::{rank, rank_of_best};
+use aa_decide_rules::{rank, rank_of_best};
 use aa_glob_pattern::Pattern;
 
 // The first of some patterns that has this rank.

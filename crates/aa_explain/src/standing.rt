@@ -3,7 +3,7 @@
 ghost use Rattle.std.specs.Prelude.{◌≡◌};
 ghost use Rattle.aa_explain.specs.Standings.{is_the_one, standing_of};
 
-use aa_decide_attachment::{greatest, standing_out};
+use aa_decide_rules::{greatest, standing_out};
 
 /// How a candidate comes out among others on a path.
 #[derive(Clone, Copy, Debug, PartialEq, Eq)]

@@ -5,8 +5,8 @@ use Rattle.std.proofs.lemmas.Bool.{cases_lt}
 use Rattle.std.proofs.lemmas.Nat.Bits.{bit_at-lt, bit_at-zero, bit_at_above, bit_at_and, bit_at_not, bit_at_or, same_from_bits}
 use Rattle.std.proofs.lemmas.Nat.{and_comm, and_le_r}
 use Rattle.aa_decide_rules.specs.Verdict.{applies, covered_by, covers, mask, with_covered, with_rule}
-use Rattle.aa_profile_access.specs.Access.{common, union, without}
-use Rattle.aa_profile_access.specs.Request.{ForFile}
+use Rattle.aa_profile_data.specs.Access.{common, union, without}
+use Rattle.aa_profile_data.specs.Request.{ForFile}
 use Rattle.aa_profile_data.specs.declared.profile.Rule.{Rule}
 
 module _ (owned : Bool) (path : List ℕ) where

@@ -5,16 +5,16 @@ use Rattle.std.specs.Int.Bits.{or_zero_l, or_zero_r}
 use Rattle.std.specs.Prelude.{None, Some}
 use Rattle.std.proofs.lemmas.Nat.{and_comm, or_of_8}
 use Rattle.std.proofs.lemmas.Nat.Bits.{and_pow, bit_at-lt, bit_at_or}
-use Rattle.aa_decide_audit.specs.declared.verdict.Answer.{Answer}
-use Rattle.aa_decide_audit.specs.declared.verdict.Answer.TheVariants.{Allow, Deny, Refuse}
-use Rattle.aa_decide_audit.specs.declared.verdict.Tag.{Tag}
-use Rattle.aa_decide_audit.specs.declared.verdict.Tag.TheVariants.{Audit, Denied}
-use Rattle.aa_decide_audit.specs.declared.verdict.Verdict.{Verdict}
+use Rattle.aa_decide_rules.specs.declared.verdict.Answer.{Answer}
+use Rattle.aa_decide_rules.specs.declared.verdict.Answer.TheVariants.{Allow, Deny, Refuse}
+use Rattle.aa_decide_rules.specs.declared.verdict.Tag.{Tag}
+use Rattle.aa_decide_rules.specs.declared.verdict.Tag.TheVariants.{Audit, Denied}
+use Rattle.aa_decide_rules.specs.declared.verdict.Verdict.{Verdict}
 use Rattle.aa_decide_rules.specs.Found.{verdict_by}
 use Rattle.aa_decide_rules.specs.Verdict.{allows, allows_aloud, denies, denies_aloud, logged, mask, verdict, when_missing}
-use Rattle.aa_decide_rules.specs.declared.verdict.Mediation.TheVariants.{Enforcing}
-use Rattle.aa_profile_access.specs.Access.{union, without}
-use Rattle.aa_profile_access.specs.Request.{ForFile}
+use Rattle.aa_decide_rules.specs.declared.judgement.Mediation.TheVariants.{Enforcing}
+use Rattle.aa_profile_data.specs.Access.{union, without}
+use Rattle.aa_profile_data.specs.Request.{ForFile}
 use Rattle.aa_profile_data.specs.declared.profile.Rule.{Rule}
 use Rattle.aa_explain_changes.proofs.MaskLemmas.{mask-common, whole, without-all, without-none, without-small}
 

@@ -5,7 +5,7 @@ use Rattle.std.proofs.lemmas.List.Elements.{All-contains, Contains-get_or}
 use Rattle.std.specs.List.{All, list_any}
 use Rattle.std.specs.Prelude.{Contains, Decides, None, Option, Some, slice_get, slice_index_or}
 use Rattle.aa_decide_rules.specs.Verdict.{covered_by_file}
-use Rattle.aa_decide_rules.specs.declared.verdict.Mediation.TheVariants.{Enforcing}
+use Rattle.aa_decide_rules.specs.declared.judgement.Mediation.TheVariants.{Enforcing}
 use Rattle.aa_explain_paths.proofs.TellingLemmas.{among-telling, behind-at, file-at, matched-told, outcome-asked}
 use Rattle.aa_explain_paths.proofs.VerdictLemmas.{verdicts-alike}
 use Rattle.aa_explain_paths.specs.Claims.{single_letters}
@@ -19,7 +19,7 @@ use Rattle.aa_glob_paths.specs.declared.outcome.Outcome.{Outcome}
 use Rattle.aa_glob_syntax.specs.Matching.{matches}
 use Rattle.aa_glob_syntax.specs.Patterns.{IsPatternAt}
 use Rattle.aa_glob_syntax.specs.Reading.{items_of}
-use Rattle.aa_profile_access.specs.Access.{common}
+use Rattle.aa_profile_data.specs.Access.{common}
 use Rattle.aa_profile_data.specs.FileRules.{file_patterns}
 use Rattle.aa_profile_data.specs.declared.profile.FileRule.{FileRule}
 use Rattle.aa_profile_data.specs.declared.profile.Rule.{Rule}

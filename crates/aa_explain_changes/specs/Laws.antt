@@ -1,14 +1,14 @@
 -- Which rules can change an answer, and what follows where nothing is told.
 use Rattle.std.specs.Prelude.{◌≡◌, ◌⊎◌, ℕ, ◌<◌, Bool, false, true, List, map, Contains, None}
 use Rattle.std.specs.List.{All}
-use Rattle.aa_decide_audit.specs.declared.verdict.Answer.TheVariants.{Allow}
+use Rattle.aa_decide_rules.specs.declared.verdict.Answer.TheVariants.{Allow}
 use Rattle.aa_decide_rules.specs.Verdict.{verdict}
-use Rattle.aa_decide_rules.specs.declared.verdict.Mediation.{Mediation}
+use Rattle.aa_decide_rules.specs.declared.judgement.Mediation.{Mediation}
 use Rattle.aa_explain_paths.specs.Claims.{single_letters}
 use Rattle.aa_explain_paths.specs.Meant.{may_be_asked}
 use Rattle.aa_glob_nfa.specs.Graphs.{AreBytes}
-use Rattle.aa_profile_access.specs.Access.{all_letters}
-use Rattle.aa_profile_access.specs.Request.{ForFile}
+use Rattle.aa_profile_data.specs.Access.{all_letters}
+use Rattle.aa_profile_data.specs.Request.{ForFile}
 use Rattle.aa_explain_changes.specs.Changes.{change_of, is_change}
 use Rattle.aa_explain_changes.specs.FileChanges.{AreFileChanges, RuleChange, seen_rule_change}
 use Rattle.aa_explain_changes.specs.Lone.{LoneRule, new_lone, old_lone}

@@ -6,7 +6,7 @@ use Rattle.aa_explain_paths.specs.Meant.{may_be_asked}
 use Rattle.aa_glob_nfa.specs.Graphs.{AreBytes}
 use Rattle.aa_glob_syntax.specs.Matching.{matches}
 use Rattle.aa_glob_syntax.specs.Reading.{items_of}
-use Rattle.aa_profile_access.specs.Access.{common, union}
+use Rattle.aa_profile_data.specs.Access.{common, union}
 use Rattle.aa_profile_data.specs.declared.profile.FileRule.{FileRule}
 use Rattle.aa_explain_changes.specs.Changes.{answers_at, changes_of, is_change, same_change}
 use Rattle.aa_explain_changes.specs.Sides.{Sides}

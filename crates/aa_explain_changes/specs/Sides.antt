@@ -1,9 +1,9 @@
 -- The two sides of a change of rules.
 use Rattle.std.specs.Prelude.{ℕ, Bool, List}
-use Rattle.aa_decide_audit.specs.declared.verdict.Verdict.{Verdict}
+use Rattle.aa_decide_rules.specs.declared.verdict.Verdict.{Verdict}
 use Rattle.aa_decide_rules.specs.Verdict.{verdict}
-use Rattle.aa_decide_rules.specs.declared.verdict.Mediation.TheVariants.{Enforcing}
-use Rattle.aa_profile_access.specs.Request.{ForFile}
+use Rattle.aa_decide_rules.specs.declared.judgement.Mediation.TheVariants.{Enforcing}
+use Rattle.aa_profile_data.specs.Request.{ForFile}
 use Rattle.aa_profile_data.specs.declared.profile.Rule.{Rule}
 use Rattle.aa_explain_changes.specs.declared.sides.Side.{Side as CodeSide}
 use Rattle.aa_explain_changes.specs.declared.sides.Sides.{Sides as CodeSides}

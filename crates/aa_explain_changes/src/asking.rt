@@ -17,7 +17,7 @@ use crate::rules::{RuleChange, rule_changes};
 use crate::sides::Sides;
 use aa_decide_ready::with_files;
 use aa_explain_paths::{file_count, standing_paths, unasked_patterns};
-use aa_glob_automaton::AutomatonBuilder;
+use aa_glob::AutomatonBuilder;
 use aa_glob_paths::{Outcome, outcomes_stand_for_all};
 use aa_glob_pattern::Pattern;
 use std::alloc::{AllocError, Global};

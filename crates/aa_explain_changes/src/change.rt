@@ -3,7 +3,7 @@
 ghost use Rattle.std.specs.Prelude.{◌≡◌};
 ghost use Rattle.aa_explain_changes.specs.Changes.{change_between, is_change, same_answer, same_log, same_or, same_tag};
 
-use aa_decide_audit::{Answer, Tag, Verdict};
+use aa_decide_rules::{Answer, Tag, Verdict};
 use bitflags::Flags;
 
 /// How the answer to a letter of a file changes.

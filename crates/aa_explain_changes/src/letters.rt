@@ -12,8 +12,7 @@ use crate::change::{Answers, Change, change_between};
 use crate::sides::Sides;
 use aa_decide_rules::covered_by_file;
 use aa_explain_paths::{MatchedRules, matched_verdict};
-use aa_profile_access::Perms;
-use aa_profile_data::FileRule;
+use aa_profile_data::{FileRule, Perms};
 use bitflags::Flags;
 
 /// How the answer to each letter changes.

@@ -16,8 +16,7 @@ use crate::kinds::Kind;
 use crate::letters::{Places, answers_at};
 use crate::lone::LoneRule;
 use crate::sides::Sides;
-use aa_profile_access::Perms;
-use aa_profile_data::FileRule;
+use aa_profile_data::{FileRule, Perms};
 use std::alloc::{AllocError, Global};
 
 /// A path on which answers change that a rule takes part in.

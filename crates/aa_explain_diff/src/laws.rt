@@ -2,19 +2,18 @@
 
 ghost use Rattle.std.specs.Prelude.{◌≡◌, ◌<◌, ◌^◌, ℕ, Bool, List, true};
 ghost use Rattle.std.specs.List.{All};
-ghost use Rattle.aa_decide_exec_rules.specs.Choices.{choice};
+ghost use Rattle.aa_decide_rules.specs.Choices.{choice};
 ghost use Rattle.aa_decide_rules.specs.Verdict.{verdict};
-ghost use Rattle.aa_decide_rules.specs.declared.verdict.Mediation.{Mediation};
+ghost use Rattle.aa_decide_rules.specs.declared.judgement.Mediation.{Mediation};
 ghost use Rattle.aa_explain_diff.specs.Alike.{HaveSameHead};
 ghost use Rattle.aa_explain_diff.specs.Features.{are_alike};
 ghost use Rattle.aa_explain_diff.specs.Sections.{Section};
-ghost use Rattle.aa_profile_access.specs.Request.{Request};
+ghost use Rattle.aa_profile_data.specs.Request.{Request};
 ghost use Rattle.aa_profile_data.specs.ConflictLaws.{HasReadPattern};
 ghost use Rattle.aa_profile_data.specs.Conflicts.{agree};
 ghost use Rattle.aa_profile_data.specs.SameRules.{HaveSameRules};
 
-use aa_decide_exec_rules::order_changes_no_choice;
-use aa_decide_rules::what_rules_decide;
+use aa_decide_rules::{order_changes_no_choice, what_rules_decide};
 
 /// Two sections of which neither has something that the other lacks have one head and the same rules, and decide alike: whatever is asked, and whatever
 /// becomes of what the rules don't allow, the verdict is the same, with its tag and its mask, and so is what they say together of the start of a program,

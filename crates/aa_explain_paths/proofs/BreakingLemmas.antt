@@ -4,12 +4,12 @@ use Rattle.std.proofs.lemmas.Bool.{and_from, and_parts, true≢false}
 use Rattle.std.specs.List.{list_any}
 use Rattle.std.specs.Prelude.{AllPairs, Contains, None, Option, Some}
 use Rattle.std.proofs.lemmas.List.Elements.{All-contains}
-use Rattle.aa_decide_rules.specs.declared.verdict.Mediation.TheVariants.{Enforcing}
+use Rattle.aa_decide_rules.specs.declared.judgement.Mediation.TheVariants.{Enforcing}
 use Rattle.aa_glob_nfa.proofs.ListLemmas.{Contains-cons_cases, Contains-first, Contains-later, Contains-map_cases}
 use Rattle.aa_glob_paths.specs.AllPaths.{IsOutcome, TellAllPaths}
 use Rattle.aa_glob_paths.specs.Laws.{AreMatchedAlike, OutcomesStandForAll, StandForAllPaths, paths_of}
 use Rattle.aa_glob_paths.specs.declared.outcome.Outcome.{Outcome}
-use Rattle.aa_profile_access.specs.Access.{common}
+use Rattle.aa_profile_data.specs.Access.{common}
 use Rattle.aa_profile_data.specs.FileRules.{file_patterns}
 use Rattle.aa_profile_data.specs.declared.profile.Rule.{Rule}
 use Rattle.aa_explain_paths.specs.Answers.{Asked, Breaking, HoldsOfAll, IsAnswerBy, IsBreaking, IsShortestBreaking, breaking_by, seen_breaking}

@@ -4,7 +4,7 @@ use Rattle.std.specs.Prelude.{Contains, None, Option, Some, slice_get}
 use Rattle.std.specs.List.{filter}
 use Rattle.std.specs.List.Sorted.{IsStrictlyIncreasing}
 use Rattle.std.proofs.lemmas.Option.{slice_get_within}
-use Rattle.aa_glob_front.proofs.RunLemmas.{slice_get-append}
+use Rattle.aa_glob_nfa.proofs.RunLemmas.{slice_get-append}
 use Rattle.aa_glob_nfa.proofs.ListLemmas.{Contains-cons_cases, Contains-first, Contains-later}
 use Rattle.aa_glob_paths.specs.AllPaths.{IsOutcome}
 use Rattle.aa_glob_paths.specs.declared.outcome.Outcome.{Outcome}

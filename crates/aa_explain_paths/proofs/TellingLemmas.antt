@@ -4,14 +4,14 @@ use Rattle.std.proofs.lemmas.Bool.{cases_lt, or_left, or_right, true≢false}
 use Rattle.std.proofs.lemmas.List.{get_or-append_right, get_or-replicate, get_or_append_left, get_or_past, length-replicate}
 use Rattle.std.proofs.lemmas.Option.{slice_get_within}
 use Rattle.std.specs.Prelude.{Contains, Some, replicate, slice_get}
-use Rattle.aa_glob_front.proofs.RunLemmas.{slice_get-append}
+use Rattle.aa_glob_nfa.proofs.RunLemmas.{slice_get-append}
 use Rattle.aa_glob_nfa.proofs.ListLemmas.{Contains-cons_cases}
 use Rattle.aa_glob_pairs.specs.Graphs.{class_at}
 use Rattle.aa_glob_paths.specs.AllPaths.{IsOutcome}
 use Rattle.aa_glob_paths.specs.Laws.{IsMatchedByClass, IsToldOf}
 use Rattle.aa_glob_paths.specs.declared.outcome.Outcome.{Outcome}
-use Rattle.aa_glob_sets.specs.Settled.{passed_over_class}
-use Rattle.aa_glob_sets.specs.Wanted.{wanted_class}
+use Rattle.aa_glob_paths.specs.Settled.{passed_over_class}
+use Rattle.aa_glob_paths.specs.Wanted.{wanted_class}
 use Rattle.aa_glob_syntax.specs.Matching.{matches}
 use Rattle.aa_glob_syntax.specs.Patterns.{IsPatternAt}
 use Rattle.aa_glob_syntax.specs.Reading.{items_of}

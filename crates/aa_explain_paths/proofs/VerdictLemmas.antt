@@ -1,14 +1,14 @@
 -- Verdicts on paths that the same patterns match.
 use Rattle.std.proofs.Common.{◌≡◌, ℕ, Bool, not, ◌==◌, ◌&&◌, ◌||◌, List, [], ◌∷◌, refl, ◌∙◌, ap, if◌then◌else◌}
 use Rattle.std.specs.Prelude.{Contains}
-use Rattle.aa_decide_audit.specs.declared.verdict.Answer.TheVariants.{Allow, Deny}
-use Rattle.aa_decide_audit.specs.declared.verdict.Tag.TheVariants.{Audit, Denied}
+use Rattle.aa_decide_rules.specs.declared.verdict.Answer.TheVariants.{Allow, Deny}
+use Rattle.aa_decide_rules.specs.declared.verdict.Tag.TheVariants.{Audit, Denied}
 use Rattle.aa_decide_rules.specs.Verdict.{allows, allows_aloud, applies, covered_by, denies, denies_aloud, logged, verdict, when_missing, with_covered, with_rule}
-use Rattle.aa_decide_rules.specs.declared.verdict.Mediation.{Mediation}
+use Rattle.aa_decide_rules.specs.declared.judgement.Mediation.{Mediation}
 use Rattle.aa_glob_nfa.proofs.ListLemmas.{Contains-first, Contains-later}
 use Rattle.aa_glob_paths.specs.Laws.{AreMatchedAlike}
-use Rattle.aa_profile_access.specs.Access.{common, union, without}
-use Rattle.aa_profile_access.specs.Request.{ForFile}
+use Rattle.aa_profile_data.specs.Access.{common, union, without}
+use Rattle.aa_profile_data.specs.Request.{ForFile}
 use Rattle.aa_profile_data.specs.declared.profile.Rule.{Rule}
 use Rattle.aa_profile_data.specs.declared.profile.Rule.TheVariants.{Cap, File, Net, Other}
 use Rattle.aa_explain_paths.specs.Laws.{HavePatternsAmong, VerdictsAreAlike, VerdictsOfAllPaths}

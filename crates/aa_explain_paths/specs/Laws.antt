@@ -1,12 +1,12 @@
 -- Verdicts over all paths.
 use Rattle.std.specs.Prelude.{◌≡◌, ℕ, Bool, List, Contains}
 use Rattle.aa_decide_rules.specs.Verdict.{verdict}
-use Rattle.aa_decide_rules.specs.declared.verdict.Mediation.{Mediation}
+use Rattle.aa_decide_rules.specs.declared.judgement.Mediation.{Mediation}
 use Rattle.aa_glob_nfa.specs.Graphs.{AreBytes}
 use Rattle.aa_glob_paths.specs.Laws.{AreMatchedAlike, IsToldOf, StandForAllPaths, StandsFor}
 use Rattle.aa_glob_syntax.specs.Patterns.{IsPatternAt}
-use Rattle.aa_profile_access.specs.Access.{common}
-use Rattle.aa_profile_access.specs.Request.{ForFile}
+use Rattle.aa_profile_data.specs.Access.{common}
+use Rattle.aa_profile_data.specs.Request.{ForFile}
 use Rattle.aa_profile_data.specs.declared.profile.FileRule.{FileRule}
 use Rattle.aa_profile_data.specs.declared.profile.Rule.{Rule}
 use Rattle.aa_profile_data.specs.declared.profile.Rule.TheVariants.{File}

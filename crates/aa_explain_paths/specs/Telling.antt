@@ -1,7 +1,7 @@
 -- The patterns that tell paths apart, and their classes.
 use Rattle.std.specs.Prelude.{ℕ, List, ◌++◌, length, replicate}
-use Rattle.aa_glob_sets.specs.Settled.{passed_over_class}
-use Rattle.aa_glob_sets.specs.Wanted.{wanted_class}
+use Rattle.aa_glob_paths.specs.Settled.{passed_over_class}
+use Rattle.aa_glob_paths.specs.Wanted.{wanted_class}
 use Rattle.aa_profile_data.specs.FileRules.{file_patterns}
 use Rattle.aa_profile_data.specs.declared.profile.Rule.{Rule}
 

@@ -17,10 +17,9 @@ use crate::patterns::{file_count, standing_paths, unasked_patterns};
 use crate::question::{Breaking, PathAnswer, PathQuestion};
 use crate::relevant::relevant_rules;
 use aa_decide_ready::{file_places, picked, with_files};
-use aa_glob_automaton::AutomatonBuilder;
+use aa_glob::AutomatonBuilder;
 use aa_glob_paths::{Outcome, outcomes_stand_for_all};
-use aa_profile_access::Perms;
-use aa_profile_data::{Rule, which_rules_match};
+use aa_profile_data::{Perms, Rule, which_rules_match};
 use std::alloc::{AllocError, Global};
 
 // Whose file of a path says otherwise, and by which letters, if it does.

@@ -2,16 +2,15 @@
 
 ghost use Rattle.std.specs.Prelude.{◌≡◌, false};
 ghost use Rattle.aa_decide_rules.specs.Verdict.{verdict};
-ghost use Rattle.aa_decide_rules.specs.declared.verdict.Mediation.TheVariants.{Enforcing};
-ghost use Rattle.aa_profile_access.specs.Request.{ForFile};
+ghost use Rattle.aa_decide_rules.specs.declared.judgement.Mediation.TheVariants.{Enforcing};
+ghost use Rattle.aa_profile_data.specs.Request.{ForFile};
 ghost use Rattle.aa_explain_paths.specs.Matched.{AreMatched};
 ghost use Rattle.aa_explain_paths.specs.Claims.{are_let, breaking_letters, breaks, breaks_for, first_owner, is_let, let_letters, some_is_let, with_let};
 
 use crate::matched::MatchedRules;
 use crate::question::{Claim, Whose};
-use aa_decide_audit::{Answer, Verdict};
-use aa_decide_rules::{Mediation, found_verdict, what_matching_rules_decide};
-use aa_profile_access::{Perms, Request};
+use aa_decide_rules::{Answer, Mediation, Verdict, found_verdict, what_matching_rules_decide};
+use aa_profile_data::{Perms, Request};
 use bitflags::Flags;
 
 /// What rules say in enforce mode of these letters of a file, by those that match its path; `audit` says whether each rule is audited. It takes no memory.

@@ -3,13 +3,13 @@
 ghost use Rattle.std.specs.Prelude.{◌≡◌, ◌≤◌, ◌++◌, ℕ, IfOk, IfSome, List, None, OnOk, length, replicate};
 ghost use Rattle.aa_explain_paths.specs.Meant.{unasked_patterns};
 ghost use Rattle.aa_explain_paths.specs.Telling.{classes_among, classes_of, telling_among};
-ghost use Rattle.aa_glob_automaton.specs.Automata.{IsAutomatonOf};
-ghost use Rattle.aa_glob_automaton.specs.Built.{IsBuilt};
+ghost use Rattle.aa_glob.specs.Automata.{IsAutomatonOf};
+ghost use Rattle.aa_glob.specs.Built.{IsBuilt};
 ghost use Rattle.aa_glob_paths.specs.AllPaths.{TellAllPaths};
 ghost use Rattle.aa_glob_paths.specs.TooMany.{AreMoreTextsThan};
 ghost use Rattle.aa_profile_data.specs.FileRules.{file_patterns};
 
-use aa_glob_automaton::{Automaton, AutomatonBuilder};
+use aa_glob::{Automaton, AutomatonBuilder};
 use aa_glob_paths::{Outcome, PASSED_OVER, WANTED, outcomes};
 use aa_glob_pattern::Pattern;
 use aa_profile_data::Rule;

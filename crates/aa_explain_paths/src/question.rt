@@ -1,11 +1,11 @@
 //! Questions about all paths, and what they are answered.
 
 ghost use Rattle.std.specs.Prelude.{◌≡◌};
-ghost use Rattle.aa_profile_access.specs.Request.{ForFile};
-ghost use Rattle.aa_profile_access.specs.SeenRequests.{request_of};
+ghost use Rattle.aa_profile_data.specs.Request.{ForFile};
+ghost use Rattle.aa_profile_data.specs.SeenRequests.{request_of};
 
 use aa_glob_pattern::Pattern;
-use aa_profile_access::{Perms, Request};
+use aa_profile_data::{Perms, Request};
 
 /// What is claimed of paths.
 #[derive(Clone, Copy, Debug, PartialEq, Eq)]

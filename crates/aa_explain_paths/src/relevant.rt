@@ -5,8 +5,7 @@ ghost use Rattle.aa_explain_paths.specs.Relevant.{covers_some, has_owned, is_rel
 
 use crate::question::Whose;
 use aa_decide_rules::covered_by_file;
-use aa_profile_access::Perms;
-use aa_profile_data::{FileRule, Rule};
+use aa_profile_data::{FileRule, Perms, Rule};
 use bitflags::Flags;
 use std::alloc::{AllocError, Global};
 

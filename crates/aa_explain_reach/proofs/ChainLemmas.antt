@@ -5,15 +5,15 @@ use Rattle.std.specs.Option.{option_map}
 use Rattle.std.proofs.lemmas.Option.{slice_get_within}
 use Rattle.aa_decide.specs.Exec.{Asker, Base, Nowhere, Null, OnProfile, OnUnconfined, Stacked, Started, Unconfined, Under}
 use Rattle.aa_decide.specs.SeenExec.{seen_base, seen_to}
-use Rattle.aa_decide_audit.specs.declared.exec_verdict.ExecTo.{ExecTo}
-use Rattle.aa_decide_audit.specs.declared.exec_verdict.ExecTo.TheVariants as to
-use Rattle.aa_decide_audit.specs.declared.exec_verdict.StackBase.{StackBase}
-use Rattle.aa_decide_audit.specs.declared.exec_verdict.StackBase.TheVariants as base
-use Rattle.aa_decide_slots.specs.Entries.{Loaded}
-use Rattle.aa_decide_slots.specs.Slots.{entry_at, filled}
-use Rattle.aa_profile_access.specs.Stacks.{parts_of}
+use Rattle.aa_decide_rules.specs.declared.exec_verdict.ExecTo.{ExecTo}
+use Rattle.aa_decide_rules.specs.declared.exec_verdict.ExecTo.TheVariants as to
+use Rattle.aa_decide_rules.specs.declared.exec_verdict.StackBase.{StackBase}
+use Rattle.aa_decide_rules.specs.declared.exec_verdict.StackBase.TheVariants as base
+use Rattle.aa_decide_ready.specs.Entries.{Loaded}
+use Rattle.aa_decide_ready.specs.Slots.{entry_at, filled}
+use Rattle.aa_profile_data.specs.Stacks.{parts_of}
 use Rattle.aa_profile_data.proofs.PlaceLemmas.{Contains-to_get}
-use Rattle.aa_explain_starts.specs.Starts.{IsStart, LeadsTo}
+use Rattle.aa_explain_reach.specs.Starts.{IsStart, LeadsTo}
 use Rattle.aa_explain_reach.specs.Chains.{ChainsEndAtNodes, Ends, NodesEndChains, NoneRunsUnconfined}
 use Rattle.aa_explain_reach.specs.Reach.{IsBefore, IsReached, IsStarterOf}
 use Rattle.aa_explain_reach.specs.Starters.{alone, base_starters, member_starters, stand_starters, starters, starters_at}

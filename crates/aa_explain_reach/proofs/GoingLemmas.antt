@@ -4,15 +4,15 @@ use Rattle.std.specs.Prelude.{Contains, Option}
 use Rattle.std.proofs.lemmas.List.Elements.{All-contains}
 use Rattle.aa_decide.specs.Exec.{Asker}
 use Rattle.aa_decide.specs.SeenExec.{seen_to}
-use Rattle.aa_decide_audit.specs.declared.exec_verdict.ExecTo.{ExecTo}
-use Rattle.aa_decide_slots.specs.Entries.{Loaded}
-use Rattle.aa_decide_slots.specs.Slots.{filled}
-use Rattle.aa_explain_starts.specs.Patterns.{start_patterns}
-use Rattle.aa_explain_starts.specs.Places.{same_to}
-use Rattle.aa_explain_starts.specs.Starts.{AreStartsOf, IsStart}
-use Rattle.aa_explain_starts.specs.declared.start.Start.{Start}
-use Rattle.aa_explain_starts.proofs.AlikeLemmas.{in-back, in-front}
-use Rattle.aa_explain_starts.proofs.PutLemmas.{behind-cases, pairs-behind, to-seen}
+use Rattle.aa_decide_rules.specs.declared.exec_verdict.ExecTo.{ExecTo}
+use Rattle.aa_decide_ready.specs.Entries.{Loaded}
+use Rattle.aa_decide_ready.specs.Slots.{filled}
+use Rattle.aa_explain_reach.specs.Patterns.{start_patterns}
+use Rattle.aa_explain_reach.specs.Places.{same_to}
+use Rattle.aa_explain_reach.specs.Starts.{AreStartsOf, IsStart}
+use Rattle.aa_explain_reach.specs.declared.start.Start.{Start}
+use Rattle.aa_explain_reach.proofs.AlikeLemmas.{in-back, in-front}
+use Rattle.aa_explain_reach.proofs.PutLemmas.{behind-cases, pairs-behind, to-seen}
 use Rattle.aa_glob_nfa.proofs.ListLemmas.{Contains-cons_cases, Contains-first, Contains-later}
 use Rattle.aa_glob_paths.specs.TooMany.{AreMoreTextsThan}
 use Rattle.aa_explain_reach.specs.Reach.{AreApart, LeadsAmong}

@@ -1,5 +1,11 @@
+pub mod AlikeLemmas
 pub mod ChainLemmas
 pub mod GoingLemmas
 pub mod ListLemmas
+pub mod PutLemmas
 pub mod ReachLemmas
+pub mod ShortestLemmas
+pub mod StandLemmas
+pub mod StartLemmas
 pub mod StarterLemmas
+pub mod WholeLemmas

@@ -4,10 +4,10 @@ use Rattle.std.specs.Prelude.{Contains, None, Option, Some, slice_get}
 use Rattle.std.proofs.lemmas.Bool.{cases_lt}
 use Rattle.std.proofs.lemmas.Option.{slice_get_within}
 use Rattle.aa_decide.specs.Exec.{Asker}
-use Rattle.aa_decide_slots.specs.Entries.{Loaded}
-use Rattle.aa_explain_starts.specs.Starts.{IsStart}
-use Rattle.aa_explain_starts.proofs.AlikeLemmas.{in-front}
-use Rattle.aa_glob_front.proofs.RunLemmas.{slice_get-append}
+use Rattle.aa_decide_ready.specs.Entries.{Loaded}
+use Rattle.aa_explain_reach.specs.Starts.{IsStart}
+use Rattle.aa_explain_reach.proofs.AlikeLemmas.{in-front}
+use Rattle.aa_glob_nfa.proofs.RunLemmas.{slice_get-append}
 use Rattle.aa_glob_nfa.proofs.ListLemmas.{Contains-first}
 use Rattle.aa_profile_data.proofs.PlaceLemmas.{Contains-from_get}
 use Rattle.aa_explain_reach.specs.Reach.{AreReached, HasTooMany, IsBefore, IsReached, IsStarterOf, LeadsAmong}

@@ -3,7 +3,7 @@ use Rattle.std.proofs.Common.{List, ◌++◌, ◌∙◌, ap, append_assoc}
 use Rattle.std.specs.Prelude.{Option}
 use Rattle.aa_decide.specs.Exec.{Asker}
 use Rattle.aa_decide.specs.declared.asker.Asker.{Asker as FoundAsker}
-use Rattle.aa_decide_slots.specs.Entries.{Loaded}
+use Rattle.aa_decide_ready.specs.Entries.{Loaded}
 use Rattle.aa_explain_reach.specs.code.Going.{Appends}
 
 pub appends-then : (slots : List (Option Loaded)) (one other : List (Option Asker)) (a b c : List (Option FoundAsker))

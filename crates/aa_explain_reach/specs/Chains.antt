@@ -2,9 +2,9 @@
 use Rattle.std.specs.Prelude.{◌≡◌, ◌⊎◌, ℕ, zero, suc, ◌≤◌, Bool, List, [], Contains, Option, Some, length}
 use Rattle.aa_decide.specs.Exec.{Asker, Started, Unconfined}
 use Rattle.aa_decide.specs.SeenExec.{seen_to}
-use Rattle.aa_decide_slots.specs.Entries.{Loaded}
-use Rattle.aa_decide_slots.specs.Slots.{filled}
-use Rattle.aa_explain_starts.specs.Starts.{LeadsTo}
+use Rattle.aa_decide_ready.specs.Entries.{Loaded}
+use Rattle.aa_decide_ready.specs.Slots.{filled}
+use Rattle.aa_explain_reach.specs.Starts.{LeadsTo}
 use Rattle.aa_explain_reach.specs.Reach.{AreReached, HasNode}
 use Rattle.aa_explain_reach.specs.Starters.{starters}
 use Rattle.aa_explain_reach.specs.declared.reached.Reached.{Reached}

@@ -2,11 +2,11 @@
 use Rattle.std.specs.Prelude.{◌≡◌, ◌⊎◌, ℕ, ◌<◌, ◌≤◌, Bool, false, List, AllPairs, Contains, Option, None, Some, length, slice_get}
 use Rattle.aa_decide.specs.Exec.{Asker, Started}
 use Rattle.aa_decide.specs.SeenExec.{seen_to}
-use Rattle.aa_decide_slots.specs.Entries.{Loaded}
-use Rattle.aa_decide_slots.specs.Slots.{filled}
-use Rattle.aa_explain_starts.specs.Patterns.{start_patterns}
-use Rattle.aa_explain_starts.specs.Places.{same_to}
-use Rattle.aa_explain_starts.specs.Starts.{IsStart, LeadsTo}
+use Rattle.aa_decide_ready.specs.Entries.{Loaded}
+use Rattle.aa_decide_ready.specs.Slots.{filled}
+use Rattle.aa_explain_reach.specs.Patterns.{start_patterns}
+use Rattle.aa_explain_reach.specs.Places.{same_to}
+use Rattle.aa_explain_reach.specs.Starts.{IsStart, LeadsTo}
 use Rattle.aa_glob_paths.specs.TooMany.{AreMoreTextsThan}
 use Rattle.aa_explain_reach.specs.Starters.{starters_at}
 use Rattle.aa_explain_reach.specs.declared.reached.Reached.{Reached}

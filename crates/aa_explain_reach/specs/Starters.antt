@@ -2,14 +2,14 @@
 use Rattle.std.specs.Prelude.{ℕ, List, [], ◌∷◌, ◌++◌, Option, None, Some, option_and_then}
 use Rattle.std.specs.Option.{option_map}
 use Rattle.aa_decide.specs.Exec.{Asker, Base, Nowhere, Null, OnProfile, OnUnconfined, Stacked, Started, Unconfined, Under, entry_asker, named_in_force}
-use Rattle.aa_decide_audit.specs.declared.exec_verdict.ExecTo.{ExecTo}
-use Rattle.aa_decide_audit.specs.declared.exec_verdict.ExecTo.TheVariants as to
-use Rattle.aa_decide_audit.specs.declared.exec_verdict.StackBase.{StackBase}
-use Rattle.aa_decide_audit.specs.declared.exec_verdict.StackBase.TheVariants as base
-use Rattle.aa_decide_slots.specs.Entries.{Loaded}
-use Rattle.aa_decide_slots.specs.Slots.{entry_at, filled}
-use Rattle.aa_profile_access.specs.FullNames.{full_name}
-use Rattle.aa_profile_access.specs.Stacks.{parts_of}
+use Rattle.aa_decide_rules.specs.declared.exec_verdict.ExecTo.{ExecTo}
+use Rattle.aa_decide_rules.specs.declared.exec_verdict.ExecTo.TheVariants as to
+use Rattle.aa_decide_rules.specs.declared.exec_verdict.StackBase.{StackBase}
+use Rattle.aa_decide_rules.specs.declared.exec_verdict.StackBase.TheVariants as base
+use Rattle.aa_decide_ready.specs.Entries.{Loaded}
+use Rattle.aa_decide_ready.specs.Slots.{entry_at, filled}
+use Rattle.aa_profile_data.specs.FullNames.{full_name}
+use Rattle.aa_profile_data.specs.Stacks.{parts_of}
 
 -- someone who is there, alone
 abbrev pub alone : Option Asker → List (Option Asker)

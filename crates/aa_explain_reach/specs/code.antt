@@ -1,2 +1,3 @@
--- What is about the code: nodes that are added to others. No public contract names these.
+-- What is about the code: starts that are told so far. No public contract names these.
 pub mod Going
+pub mod Telling

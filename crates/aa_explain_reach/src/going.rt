@@ -6,10 +6,12 @@ ghost use Rattle.aa_decide.specs.SeenExec.{IsIn, seen_asker};
 ghost use Rattle.aa_explain_reach.specs.Starters.{starters_at};
 ghost use Rattle.aa_explain_reach.specs.code.Going.{AddsNodes, AreIn, GoesOn, has_node, seen_starters};
 
+use crate::places::same_to;
 use crate::reached::Reached;
+use crate::start::Start;
 use crate::starters::starters_at;
+use crate::starts::starts_of;
 use aa_decide::{Asker, ExecTo, IndexedSlots};
-use aa_explain_starts::{Start, same_to, starts_of};
 use std::alloc::{AllocError, Global};
 
 // Whether one of some nodes is a place.

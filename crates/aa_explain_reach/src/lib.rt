@@ -1,13 +1,23 @@
-//! Chains of starts: under what programs may run that are started from each other, beginning with those that someone
-//! starts, over all paths.
+//! The start of programs over all paths: each place that programs started by someone may go to, with a shortest path that leads there; and chains of starts:
+//! under what programs may run that are started from each other.
 #![tactic(auto)]
 
 mod going;
 mod laws;
+mod patterns;
+mod places;
 mod reach;
 mod reached;
+mod standing;
+mod start;
+mod start_laws;
 mod starters;
+mod starts;
 
 pub use laws::{what_is_not_reached, what_is_reached};
+pub use places::same_to;
 pub use reach::{Reach, reachable_profiles};
 pub use reached::Reached;
+pub use start::Start;
+pub use start_laws::{how_starts_depend_on_paths, which_starts_are_shortest};
+pub use starts::starts_of;

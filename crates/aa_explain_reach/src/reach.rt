@@ -51,7 +51,7 @@ fn go_on_all<'a>(
 
 /// Under what programs may run that someone starts, and those that are started from there, and so on: each such place
 /// once, as a node, with the node that it is come to from and a path that leads there from that
-/// (`aa_explain_starts::starts_of`), found breadth first. So a chain of starts leads to each node. No other place is
+/// (`aa_explain_reach::starts_of`), found breadth first. So a chain of starts leads to each node. No other place is
 /// come to by such a chain, where all nodes were gone on from and `unknown` is empty (`what_is_not_reached`).
 ///
 /// Under a stack each in it starts programs by itself, so more may be told than a kernel lets, which asks all in it

@@ -1,6 +1,6 @@
 //! A place where programs run that are started.
 
-use aa_explain_starts::Start;
+use crate::start::Start;
 
 /// A place where programs run that are started, a node, and how it is come to.
 #[derive(Drop)]

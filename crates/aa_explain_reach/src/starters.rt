@@ -4,15 +4,14 @@ ghost use Rattle.std.specs.Prelude.{◌≡◌, ◌∷◌, [], IfOk, IfSome, List
 ghost use Rattle.std.specs.Option.{option_copied, option_map};
 ghost use Rattle.aa_decide.specs.Exec.{entry_asker, is_named_in_force, named_in_force};
 ghost use Rattle.aa_decide.specs.SeenExec.{IsIn, seen_asker};
-ghost use Rattle.aa_decide_slots.specs.Entries.{Loaded};
-ghost use Rattle.aa_decide_slots.specs.Slots.{entry_at, filled};
+ghost use Rattle.aa_decide_ready.specs.Entries.{Loaded};
+ghost use Rattle.aa_decide_ready.specs.Slots.{entry_at, filled};
 ghost use Rattle.aa_explain_reach.specs.Starters.{alone, member_asker, member_starters, slot_base_starters, slot_starters, stand_starters, starters_at};
 ghost use Rattle.aa_explain_reach.specs.code.Going.{Appends, AreIn, seen_starters};
-ghost use Rattle.aa_profile_access.specs.Stacks.{parts_of};
+ghost use Rattle.aa_profile_data.specs.Stacks.{parts_of};
 
 use aa_decide::{Asker, Entry, ExecTo, IndexedSlots, StackBase, entry_at};
-use aa_profile_access::{cut_full_name, first_member};
-use aa_profile_data::child_place;
+use aa_profile_data::{child_place, cut_full_name, first_member};
 use std::alloc::{AllocError, Global};
 
 // Appends someone who is there.

@@ -3,16 +3,16 @@ use Rattle.std.proofs.Common.{◌≡◌, ℕ, Bool, true, false, not, ◌&&◌, 
 use Rattle.std.specs.Int.Bits.{or_zero_r}
 use Rattle.std.specs.List.{filter}
 use Rattle.std.specs.Prelude.{Contains, None}
-use Rattle.aa_decide_audit.specs.declared.verdict.Answer.TheVariants.{Allow, Deny}
-use Rattle.aa_decide_audit.specs.declared.verdict.Tag.TheVariants.{Audit, Denied}
-use Rattle.aa_decide_exec_rules.proofs.SaidLemmas.{exec-before, said-before}
-use Rattle.aa_decide_exec_rules.specs.Choices.{choice, choice_of}
-use Rattle.aa_decide_exec_rules.specs.ExecRules.{exec_rules, said_by, said_of}
+use Rattle.aa_decide_rules.specs.declared.verdict.Answer.TheVariants.{Allow, Deny}
+use Rattle.aa_decide_rules.specs.declared.verdict.Tag.TheVariants.{Audit, Denied}
+use Rattle.aa_decide_rules.proofs.SaidLemmas.{exec-before, said-before}
+use Rattle.aa_decide_rules.specs.Choices.{choice, choice_of}
+use Rattle.aa_decide_rules.specs.ExecRules.{exec_rules, said_by, said_of}
 use Rattle.aa_decide_rules.specs.Verdict.{allows, allows_aloud, covered_by_file, covers, denies, denies_aloud, logged, verdict, when_missing, with_covered, with_rule}
-use Rattle.aa_decide_rules.specs.declared.verdict.Mediation.{Mediation}
+use Rattle.aa_decide_rules.specs.declared.judgement.Mediation.{Mediation}
 use Rattle.aa_glob_nfa.proofs.ListLemmas.{Contains-first, Contains-later}
-use Rattle.aa_profile_access.specs.Access.{common, union, without}
-use Rattle.aa_profile_access.specs.Request.{ForFile}
+use Rattle.aa_profile_data.specs.Access.{common, union, without}
+use Rattle.aa_profile_data.specs.Request.{ForFile}
 use Rattle.aa_profile_data.specs.Matching.{is_matching}
 use Rattle.aa_profile_data.specs.declared.profile.Rule.{Rule}
 use Rattle.aa_profile_data.specs.declared.profile.Rule.TheVariants.{Cap, File, Net, Other}

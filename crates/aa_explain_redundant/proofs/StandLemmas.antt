@@ -4,7 +4,7 @@ use Rattle.std.proofs.lemmas.Bool.{and_parts}
 use Rattle.std.proofs.lemmas.List.Elements.{All-contains}
 use Rattle.std.specs.List.{All, filter}
 use Rattle.std.specs.Prelude.{Contains}
-use Rattle.aa_decide_rules.specs.declared.verdict.Mediation.TheVariants.{Enforcing}
+use Rattle.aa_decide_rules.specs.declared.judgement.Mediation.TheVariants.{Enforcing}
 use Rattle.aa_explain_changes.proofs.LoneLemmas.{exists}
 use Rattle.aa_explain_changes.specs.Sides.{Side}
 use Rattle.aa_explain_paths.proofs.TellingLemmas.{at-matched, file-at, files-among, matched-told, outcome-asked}

@@ -6,8 +6,8 @@ use Rattle.aa_explain_paths.specs.Meant.{is_meant, unasked_patterns}
 use Rattle.aa_explain_paths.specs.Telling.{telling_among}
 use Rattle.aa_glob_nfa.specs.Graphs.{AreBytes}
 use Rattle.aa_glob_paths.specs.TooMany.{AreMoreTextsThan}
-use Rattle.aa_profile_access.specs.Access.{all_letters, common, union}
-use Rattle.aa_profile_access.specs.Request.{ForFile}
+use Rattle.aa_profile_data.specs.Access.{all_letters, common, union}
+use Rattle.aa_profile_data.specs.Request.{ForFile}
 use Rattle.aa_profile_data.specs.Matching.{is_matching}
 use Rattle.aa_profile_data.specs.declared.profile.Rule.{Rule}
 use Rattle.aa_explain_redundant.specs.Left.{Numbered, WrittenRules, is_made_of, numbered, stays}

@@ -1,12 +1,12 @@
 -- What follows where written rules are told.
 use Rattle.std.specs.Prelude.{◌≡◌, ℕ, ◌<◌, Bool, true, List}
-use Rattle.aa_decide_exec_rules.specs.Choices.{choice}
+use Rattle.aa_decide_rules.specs.Choices.{choice}
 use Rattle.aa_decide_rules.specs.Verdict.{verdict}
-use Rattle.aa_decide_rules.specs.declared.verdict.Mediation.{Mediation}
+use Rattle.aa_decide_rules.specs.declared.judgement.Mediation.{Mediation}
 use Rattle.aa_explain_paths.specs.Meant.{may_be_asked}
 use Rattle.aa_glob_nfa.specs.Graphs.{AreBytes}
-use Rattle.aa_profile_access.specs.Access.{all_letters}
-use Rattle.aa_profile_access.specs.Request.{ForFile}
+use Rattle.aa_profile_data.specs.Access.{all_letters}
+use Rattle.aa_profile_data.specs.Request.{ForFile}
 use Rattle.aa_explain_redundant.specs.Left.{WrittenRules, left}
 use Rattle.aa_explain_redundant.specs.Redundant.{AreToldOf}
 

@@ -14,7 +14,7 @@ use crate::trying::told_by;
 use crate::written::{NumberedRule, WrittenRules, is_made_of, numbered};
 use aa_decide_ready::{file_places, with_files};
 use aa_explain_paths::{file_count, standing_paths, unasked_patterns};
-use aa_glob_automaton::AutomatonBuilder;
+use aa_glob::AutomatonBuilder;
 use aa_glob_paths::{Outcome, outcomes_stand_for_all};
 use aa_glob_pattern::Pattern;
 use aa_profile_data::Rule;

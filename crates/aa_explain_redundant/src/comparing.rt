@@ -2,18 +2,18 @@
 
 ghost use Rattle.std.specs.Prelude.{◌≡◌, IfOk};
 ghost use Rattle.std.specs.List.{list_any};
-ghost use Rattle.aa_decide_exec_rules.specs.Choices.{choice};
-ghost use Rattle.aa_decide_exec_rules.specs.SeenChoices.{seen_choice};
+ghost use Rattle.aa_decide_rules.specs.Choices.{choice};
+ghost use Rattle.aa_decide_rules.specs.SeenChoices.{seen_choice};
 ghost use Rattle.aa_explain_paths.specs.Claims.{single_letters};
 ghost use Rattle.aa_profile_data.specs.SameRules.{same_flag};
 ghost use Rattle.aa_explain_redundant.specs.code.Copies.{ArePathCopies};
 ghost use Rattle.aa_explain_redundant.specs.code.Comparing.{AreCompared, all_side, answers_change, answers_change_for, left_side, letter_changes, same_choice, start_changes};
 
 use crate::copies::{Copies, matched};
-use aa_decide_exec_rules::{ExecChoice, exec_choice};
+use aa_decide_rules::{ExecChoice, exec_choice};
 use aa_explain_changes::change_between;
 use aa_explain_paths::matched_verdict;
-use aa_profile_access::Perms;
+use aa_profile_data::Perms;
 use std::alloc::{AllocError, Global};
 
 /// The rules that match a path, all of them and those that are left.

@@ -16,11 +16,10 @@ use crate::asking::tried_patterns;
 use crate::written::{NumberedRule, WrittenRules, is_made_of, numbered};
 use aa_decide_rules::covers;
 use aa_explain_paths::{standing_paths, unasked_patterns};
-use aa_glob_automaton::AutomatonBuilder;
+use aa_glob::AutomatonBuilder;
 use aa_glob_paths::{Outcome, outcomes_stand_for_all};
 use aa_glob_pattern::Pattern;
-use aa_profile_access::{Perms, Request};
-use aa_profile_data::Rule;
+use aa_profile_data::{Perms, Request, Rule};
 use bitflags::Flags;
 use std::alloc::{AllocError, Global};
 

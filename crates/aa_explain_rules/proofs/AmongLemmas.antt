@@ -7,8 +7,8 @@ use Rattle.std.proofs.lemmas.Bool.{false≢true}
 use Rattle.std.proofs.Math.Bool.{and-false}
 use Rattle.aa_glob_syntax.specs.Matching.{matches}
 use Rattle.aa_glob_syntax.specs.Reading.{items_of}
-use Rattle.aa_profile_access.specs.Access.{EXEC, has}
-use Rattle.aa_profile_access.specs.Request.{ForCapability, ForFile, ForSockets, Request}
+use Rattle.aa_profile_data.specs.Access.{EXEC, has}
+use Rattle.aa_profile_data.specs.Request.{ForCapability, ForFile, ForSockets, Request}
 use Rattle.aa_profile_data.specs.Matching.{AreMatchingRules, is_matching}
 use Rattle.aa_profile_data.specs.Conflicts.{lead_of, same_transition}
 use Rattle.aa_profile_data.specs.Ranks.{same_rank}
@@ -17,8 +17,8 @@ use Rattle.aa_profile_data.specs.declared.profile.Rank.TheVariants.{Plain}
 use Rattle.aa_profile_data.specs.declared.profile.Transition.{Transition}
 use Rattle.aa_profile_data.specs.declared.profile.Rule.{Rule}
 use Rattle.aa_profile_data.specs.declared.profile.Rule.TheVariants.{Cap, File, Net, Other}
-use Rattle.aa_decide_exec_rules.specs.Choices.{denies, dominates}
-use Rattle.aa_decide_exec_rules.specs.ExecRules.{ExecRule}
+use Rattle.aa_decide_rules.specs.Choices.{denies, dominates}
+use Rattle.aa_decide_rules.specs.ExecRules.{ExecRule}
 use Rattle.aa_decide_rules.specs.Verdict.{allowed, allows, applies, denied, denies as denies_rule, granted, missing, with_covered, with_rule}
 use Rattle.aa_profile_data.specs.Picked.{picked}
 use Rattle.aa_explain_rules.specs.InTheWay.{is_in_the_way, leads_elsewhere}

@@ -3,8 +3,8 @@ use Rattle.std.proofs.Common.{◌≡◌, ◌∙◌, ℕ, suc, ◌+◌, Bool, tru
 use Rattle.std.specs.Prelude.{if◌then◌else◌, slice_get}
 use Rattle.std.specs.List.{list_any}
 use Rattle.std.specs.List.Sorted.{IsStrictlyIncreasing}
-use Rattle.aa_decide_exec_rules.specs.Choices.{Leads, Missing, choice, chosen, denies, dominates, first_lead, highest, leads_aloud}
-use Rattle.aa_decide_exec_rules.specs.ExecRules.{Denying, ExecRule, Leading, applies_to, exec_rules, said_by, said_of}
+use Rattle.aa_decide_rules.specs.Choices.{Leads, Missing, choice, chosen, denies, dominates, first_lead, highest, leads_aloud}
+use Rattle.aa_decide_rules.specs.ExecRules.{Denying, ExecRule, Leading, applies_to, exec_rules, said_by, said_of}
 use Rattle.aa_profile_data.specs.Ranks.{same_rank}
 use Rattle.aa_profile_data.specs.Cover.{covers_exec}
 use Rattle.aa_profile_data.specs.declared.profile.FileRule.{FileRule}

@@ -1,5 +1,6 @@
 mod AmongLemmas
 mod DecidingLemmas
+pub mod JoinedLemmas
 mod LeadingLemmas
 mod LoggedLemmas
 mod MissingLemmas

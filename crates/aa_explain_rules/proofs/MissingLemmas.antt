@@ -14,13 +14,13 @@ use Rattle.aa_glob_syntax.specs.Matching.{matches}
 use Rattle.aa_glob_syntax.specs.Reading.{HasNoFirstFault, begins_with_slash, has_zero, items_of, longest, reading}
 use Rattle.aa_glob_syntax.specs.declared.pattern_error.PatternError.{PatternError}
 use Rattle.aa_glob_syntax.specs.declared.pattern_error.PatternError.TheVariants.{NotAbsolute, TooLong, ZeroByte}
-use Rattle.aa_profile_access.specs.Access.{EXEC, common, covered, union, without}
-use Rattle.aa_profile_access.specs.Request.{ForCapability, ForFile, ForSockets, Request}
-use Rattle.aa_decide_rules.specs.declared.verdict.Mediation.{Mediation}
+use Rattle.aa_profile_data.specs.Access.{EXEC, common, covered, union, without}
+use Rattle.aa_profile_data.specs.Request.{ForCapability, ForFile, ForSockets, Request}
+use Rattle.aa_decide_rules.specs.declared.judgement.Mediation.{Mediation}
 use Rattle.aa_profile_data.specs.declared.profile.Rule.{Rule}
 use Rattle.aa_profile_data.specs.declared.profile.Rule.TheVariants.{Cap, File, Net}
-use Rattle.aa_profile_tables.specs.Kinds.{is_protocol, type_of}
-use Rattle.aa_decide_audit.specs.declared.verdict.Answer.TheVariants.{Allow}
+use Rattle.aa_profile_data.specs.Kinds.{is_protocol, type_of}
+use Rattle.aa_decide_rules.specs.declared.verdict.Answer.TheVariants.{Allow}
 use Rattle.aa_decide_rules.specs.Verdict.{allows, applies, covered_by, covers, denied, denies, granted, mask, missing, needs, verdict, with_rule}
 use Rattle.aa_explain_rules.specs.Missing.{cap_rule_for, file_rule_for, lacked, letters_for, missing_rule, net_rule_for, rule_for, transition_for}
 

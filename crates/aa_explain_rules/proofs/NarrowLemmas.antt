@@ -5,14 +5,14 @@ use Rattle.std.specs.Int.{bit_at}
 use Rattle.std.proofs.lemmas.Bool.{cases_lt, false≢true}
 use Rattle.std.proofs.lemmas.Bool.Decides.{nat_tests}
 use Rattle.std.proofs.lemmas.Nat.Bits.{bit_at-zero, bit_at_and, bit_at_or, same_from_bits}
-use Rattle.aa_profile_access.specs.Access.{EXEC, bit_in, common, covered, exec_letter, has, letters as all_of_letters, told_bit, union, without}
-use Rattle.aa_profile_access.specs.Request.{ForFile, Request}
+use Rattle.aa_profile_data.specs.Access.{EXEC, bit_in, common, covered, exec_letter, has, letters as all_of_letters, told_bit, union, without}
+use Rattle.aa_profile_data.specs.Request.{ForFile, Request}
 use Rattle.aa_profile_data.specs.declared.profile.FileRule.{FileRule}
-use Rattle.aa_decide_rules.specs.declared.verdict.Mediation.{Mediation}
-use Rattle.aa_decide_rules.specs.declared.verdict.Mediation.TheVariants.{Complaining, Enforcing}
+use Rattle.aa_decide_rules.specs.declared.judgement.Mediation.{Mediation}
+use Rattle.aa_decide_rules.specs.declared.judgement.Mediation.TheVariants.{Complaining, Enforcing}
 use Rattle.aa_profile_data.specs.declared.profile.Rule.{Rule}
 use Rattle.aa_profile_data.specs.declared.profile.Rule.TheVariants.{File}
-use Rattle.aa_decide_audit.specs.declared.verdict.Answer.TheVariants.{Allow}
+use Rattle.aa_decide_rules.specs.declared.verdict.Answer.TheVariants.{Allow}
 use Rattle.aa_decide_rules.specs.Verdict.{allows, applies, covered_by_file, covers, denied, denies, granted, missing, needs, verdict, with_rule}
 use Rattle.aa_explain_rules.specs.Missing.{file_rule_for, lacked, letters_for, missing_rule, rule_for, transition_for}
 use Rattle.aa_explain_rules.specs.Narrower.{but_letter, has_letter}

@@ -8,8 +8,8 @@ use Rattle.std.proofs.lemmas.Bool.Decides.{nat_tests}
 use Rattle.std.proofs.lemmas.Nat.Bits.{bit_at-zero, bit_at_and, bit_at_or}
 use Rattle.aa_glob.specs.Laws.{quoted}
 use Rattle.aa_glob_syntax.specs.Reading.{HasNoFirstFault}
-use Rattle.aa_profile_access.specs.Access.{APPEND, EXEC, WRITE, common, covered, has, union, without}
-use Rattle.aa_profile_access.specs.Request.{ForFile, Request}
+use Rattle.aa_profile_data.specs.Access.{APPEND, EXEC, WRITE, common, covered, has, union, without}
+use Rattle.aa_profile_data.specs.Request.{ForFile, Request}
 use Rattle.aa_profile_data.specs.Cover.{covers_exec}
 use Rattle.aa_profile_data.specs.declared.profile.FileRule.{FileRule}
 use Rattle.aa_profile_data.specs.declared.profile.Rank.{Rank}
@@ -17,8 +17,8 @@ use Rattle.aa_profile_data.specs.declared.profile.Rank.TheVariants.{Last, Loose,
 use Rattle.aa_profile_data.specs.declared.profile.Rule.{Rule}
 use Rattle.aa_profile_data.specs.declared.profile.Rule.TheVariants.{Cap, File, Net, Other}
 use Rattle.aa_profile_data.specs.declared.profile.Transition.{Transition}
-use Rattle.aa_decide_exec_rules.specs.Choices.{Leads, Missing, choice, choice_of, leads_aloud}
-use Rattle.aa_decide_exec_rules.specs.ExecRules.{ExecRule, Leading, applies_to, exec_rules, said_by, said_of}
+use Rattle.aa_decide_rules.specs.Choices.{Leads, Missing, choice, choice_of, leads_aloud}
+use Rattle.aa_decide_rules.specs.ExecRules.{ExecRule, Leading, applies_to, exec_rules, said_by, said_of}
 use Rattle.aa_decide_rules.specs.Verdict.{allows, applies, covered_by_file, covers, denied, denies, granted, missing, with_covered, with_rule}
 use Rattle.aa_explain_rules.specs.Missing.{file_rule_for, inherit, lacked, letters_for, missing_rule, transition_for}
 use Rattle.aa_explain_rules.specs.Narrower.{but_letter}

@@ -8,11 +8,11 @@ use Rattle.aa_glob.specs.Laws.{bytes_pattern, quoted}
 use Rattle.aa_glob_syntax.specs.Exactness.{is_exact}
 use Rattle.aa_glob_syntax.specs.Matching.{matches}
 use Rattle.aa_glob_syntax.specs.Reading.{HasNoFirstFault, items_of, items_read, reading}
-use Rattle.aa_profile_access.specs.Access.{EXEC, has}
-use Rattle.aa_profile_access.specs.ExecWords.{same_word}
-use Rattle.aa_profile_access.specs.Request.{ForCapability, ForFile, ForSockets, Request}
-use Rattle.aa_profile_access.specs.declared.exec_word.ExecWord.{ExecWord}
-use Rattle.aa_profile_access.specs.declared.exec_word.ExecWord.TheVariants.{Inherit}
+use Rattle.aa_profile_data.specs.Access.{EXEC, has}
+use Rattle.aa_profile_data.specs.ExecWords.{same_word}
+use Rattle.aa_profile_data.specs.Request.{ForCapability, ForFile, ForSockets, Request}
+use Rattle.aa_profile_data.specs.declared.exec_word.ExecWord.{ExecWord}
+use Rattle.aa_profile_data.specs.declared.exec_word.ExecWord.TheVariants.{Inherit}
 use Rattle.aa_profile_data.specs.ConflictLaws.{HasReadPattern}
 use Rattle.aa_profile_data.specs.Conflicts.{Conflict, Lead, agree, conflict, first_conflict, lead_of, same_target, same_transition}
 use Rattle.aa_profile_data.specs.Ranks.{same_rank}
@@ -24,7 +24,7 @@ use Rattle.aa_profile_data.specs.declared.profile.Transition.{Transition}
 use Rattle.aa_explain_rules.proofs.MissingLemmas.{MatchesItself, ReadsAsItself, file-made}
 use Rattle.aa_explain_rules.specs.InTheWay.{in_the_way, is_in_the_way, leads_elsewhere}
 use Rattle.aa_explain_rules.specs.Missing.{cap_rule_for, file_rule_for, inherit, lacked, missing_rule, net_rule_for, rank_for, rule_for, transition_for}
-use Rattle.aa_profile_tables.specs.Kinds.{is_protocol}
+use Rattle.aa_profile_data.specs.Kinds.{is_protocol}
 use Rattle.aa_explain_rules.specs.Told.{places_where}
 
 -- the exec word and the target of one that leads to who starts it

@@ -1,7 +1,7 @@
 -- The rules that a request is asked of, and which of them concern it.
 use Rattle.std.specs.Prelude.{ℕ, Bool, List}
 use Rattle.aa_decide_rules.specs.Verdict.{applies}
-use Rattle.aa_profile_access.specs.Request.{ForCapability, ForFile, ForSockets, Request}
+use Rattle.aa_profile_data.specs.Request.{ForCapability, ForFile, ForSockets, Request}
 use Rattle.aa_profile_data.specs.Matching.{is_matching}
 use Rattle.aa_profile_data.specs.declared.profile.Rule.{Rule}
 use Rattle.aa_explain_rules.specs.Told.{places_where}

@@ -2,8 +2,8 @@
 use Rattle.std.specs.Prelude.{ℕ, Bool, false, not, ◌&&◌, List, None, Some}
 use Rattle.aa_glob_syntax.specs.Matching.{matches}
 use Rattle.aa_glob_syntax.specs.Reading.{items_of}
-use Rattle.aa_profile_access.specs.Access.{EXEC, has}
-use Rattle.aa_profile_access.specs.Request.{ForFile, Request}
+use Rattle.aa_profile_data.specs.Access.{EXEC, has}
+use Rattle.aa_profile_data.specs.Request.{ForFile, Request}
 use Rattle.aa_profile_data.specs.Conflicts.{lead_of, same_transition}
 use Rattle.aa_profile_data.specs.Ranks.{same_rank}
 use Rattle.aa_profile_data.specs.declared.profile.Rank.TheVariants.{Plain}

@@ -1,7 +1,7 @@
 -- What the laws on the rules behind an answer speak of.
 use Rattle.std.specs.Prelude.{◌≡◌, ◌↔◌, ℕ, Bool, true, not, ◌&&◌, List, map, Some, slice_get}
 use Rattle.std.specs.List.{Contains, filter}
-use Rattle.aa_profile_access.specs.Request.{Request}
+use Rattle.aa_profile_data.specs.Request.{Request}
 use Rattle.aa_profile_data.specs.declared.profile.Rule.{Rule}
 use Rattle.aa_decide_rules.specs.Verdict.{allows, applies, denies}
 use Rattle.aa_explain_rules.specs.declared.told.ToldRule.{ToldRule}

@@ -1,8 +1,8 @@
 -- Which rules decide where a program runs that is started (docs/policy.md, "The start of a program").
 use Rattle.std.specs.Prelude.{ℕ, Bool, false, if◌then◌else◌, List, [], ◌∷◌, Option, None, Some, slice_get}
 use Rattle.std.specs.List.{list_any}
-use Rattle.aa_decide_exec_rules.specs.Choices.{Choice, Denied, Leads, Missing, denies, dominates}
-use Rattle.aa_decide_exec_rules.specs.ExecRules.{ExecRule, said_of}
+use Rattle.aa_decide_rules.specs.Choices.{Choice, Denied, Leads, Missing, denies, dominates}
+use Rattle.aa_decide_rules.specs.ExecRules.{ExecRule, said_of}
 use Rattle.aa_profile_data.specs.declared.profile.Rank.{Rank}
 use Rattle.aa_profile_data.specs.declared.profile.Rank.TheVariants.{Last, Loose, Plain}
 use Rattle.aa_profile_data.specs.declared.profile.Rule.{Rule}

@@ -1,5 +1,6 @@
 pub mod Asked
 pub mod InTheWay
+pub mod Joined
 pub mod Laws
 pub mod Leading
 pub mod Logged

@@ -3,9 +3,9 @@ use Rattle.std.specs.Prelude.{ℕ, ◌^◌, Bool, false, ◌&&◌, ◌==◌, nat
 use Rattle.aa_glob.specs.Laws.{quoted}
 use Rattle.aa_glob_syntax.specs.Exactness.{is_exact}
 use Rattle.aa_glob_syntax.specs.Reading.{items_of, reading}
-use Rattle.aa_profile_access.specs.Access.{APPEND, EXEC, WRITE, has, without}
-use Rattle.aa_profile_access.specs.Request.{ForCapability, ForFile, ForSockets, Request}
-use Rattle.aa_profile_access.specs.declared.exec_word.ExecWord.TheVariants.{Inherit}
+use Rattle.aa_profile_data.specs.Access.{APPEND, EXEC, WRITE, has, without}
+use Rattle.aa_profile_data.specs.Request.{ForCapability, ForFile, ForSockets, Request}
+use Rattle.aa_profile_data.specs.declared.exec_word.ExecWord.TheVariants.{Inherit}
 use Rattle.aa_profile_data.specs.declared.profile.CapRule.{CapRule}
 use Rattle.aa_profile_data.specs.declared.profile.FileRule.{FileRule}
 use Rattle.aa_profile_data.specs.declared.profile.NetRule.{NetRule}
@@ -14,7 +14,7 @@ use Rattle.aa_profile_data.specs.declared.profile.Rank.TheVariants.{Loose, Plain
 use Rattle.aa_profile_data.specs.declared.profile.Rule.{Rule}
 use Rattle.aa_profile_data.specs.declared.profile.Rule.TheVariants.{Cap, File, Net}
 use Rattle.aa_profile_data.specs.declared.profile.Transition.{Transition}
-use Rattle.aa_profile_tables.specs.Kinds.{is_protocol}
+use Rattle.aa_profile_data.specs.Kinds.{is_protocol}
 use Rattle.aa_decide_rules.specs.Verdict.{denied, missing}
 
 -- The letters of a rule that lets some needs of a file. `w` lets `a` too, which can't stand beside it, and an exec word lets a program start.

@@ -1,6 +1,6 @@
 -- Rules with one letter less than another.
 use Rattle.std.specs.Prelude.{ℕ, Bool, ◌==◌, if◌then◌else◌, None, is_some}
-use Rattle.aa_profile_access.specs.Access.{EXEC, has, without}
+use Rattle.aa_profile_data.specs.Access.{EXEC, has, without}
 use Rattle.aa_profile_data.specs.declared.profile.FileRule.{FileRule}
 
 -- a rule on files has a letter: in its access, or, where that is `x`, by an exec word

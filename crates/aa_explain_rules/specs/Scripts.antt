@@ -1,7 +1,7 @@
 -- The rule that the start of a script lacks, beside the one that the start of any other program does: its interpreter reads it, under who starts it.
 use Rattle.std.specs.Prelude.{Bool, not, ◌&&◌, if◌then◌else◌, List, Option, None}
-use Rattle.aa_profile_access.specs.Access.{EXEC, READ, has, union}
-use Rattle.aa_profile_access.specs.Request.{ForFile, Request}
+use Rattle.aa_profile_data.specs.Access.{EXEC, READ, has, union}
+use Rattle.aa_profile_data.specs.Request.{ForFile, Request}
 use Rattle.aa_profile_data.specs.declared.profile.Rule.{Rule}
 use Rattle.aa_explain_rules.specs.Missing.{lacked, missing_rule}
 

@@ -2,7 +2,7 @@
 use Rattle.std.specs.Prelude.{ℕ, ◌+◌, Bool, false, not, ◌&&◌, ◌==◌, if◌then◌else◌, List, [], ◌∷◌}
 use Rattle.aa_glob_syntax.specs.Matching.{matches}
 use Rattle.aa_glob_syntax.specs.Reading.{items_of}
-use Rattle.aa_profile_access.specs.Request.{Request, ForFile}
+use Rattle.aa_profile_data.specs.Request.{Request, ForFile}
 use Rattle.aa_profile_data.specs.declared.profile.Rule.{Rule}
 use Rattle.aa_profile_data.specs.declared.profile.Rule.TheVariants.{File}
 use Rattle.aa_decide_rules.specs.Verdict.{applies, covers, denies, is_audited}

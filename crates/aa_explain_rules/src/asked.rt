@@ -1,13 +1,12 @@
 //! The rules that a request is asked of, and which of them concern it.
 
 ghost use Rattle.std.specs.Prelude.{◌≡◌, IfOk};
-ghost use Rattle.aa_profile_access.specs.SeenRequests.{request_of};
+ghost use Rattle.aa_profile_data.specs.SeenRequests.{request_of};
 ghost use Rattle.aa_explain_rules.specs.Asked.{audits_of, concerned, concerns, rules_of};
 
 use aa_decide_ready::{ReadySection, Steps};
 use aa_decide_rules::applies;
-use aa_profile_access::Request;
-use aa_profile_data::Rule;
+use aa_profile_data::{Request, Rule};
 use std::alloc::{AllocError, Global};
 
 /// The rules that a request is asked of.

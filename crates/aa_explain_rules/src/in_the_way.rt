@@ -1,7 +1,7 @@
 //! Rules in the way of the one that a request lacks.
 
 ghost use Rattle.std.specs.Prelude.{◌≡◌, IfOk, not};
-ghost use Rattle.aa_profile_access.specs.SeenRequests.{request_of};
+ghost use Rattle.aa_profile_data.specs.SeenRequests.{request_of};
 ghost use Rattle.aa_profile_data.specs.Conflicts.{same_transition};
 ghost use Rattle.aa_explain_rules.specs.Asked.{rules_of};
 ghost use Rattle.aa_explain_rules.specs.InTheWay.{in_the_way, is_in_the_way, leads_elsewhere};
@@ -10,8 +10,7 @@ ghost use Rattle.aa_explain_rules.specs.code.Among.{among, passes_at};
 
 use crate::asked::AskedRules;
 use crate::missing::lacked;
-use aa_profile_access::{ExecWord, Perms, Request};
-use aa_profile_data::{Rank, Rule, Transition};
+use aa_profile_data::{ExecWord, Perms, Rank, Request, Rule, Transition};
 use bitflags::Flags;
 use std::alloc::{AllocError, Global};
 

@@ -1,15 +1,14 @@
 //! The rules that decide where a program runs that is started.
 
 ghost use Rattle.std.specs.Prelude.{◌≡◌, IfOk, false};
-ghost use Rattle.aa_decide_exec_rules.specs.Choices.{denies, dominates};
-ghost use Rattle.aa_decide_exec_rules.specs.ExecRules.{applies_to};
+ghost use Rattle.aa_decide_rules.specs.Choices.{denies, dominates};
+ghost use Rattle.aa_decide_rules.specs.ExecRules.{applies_to};
 ghost use Rattle.aa_explain_rules.specs.Asked.{rules_of};
 ghost use Rattle.aa_explain_rules.specs.Leading.{highest_that, leading_places, says};
 ghost use Rattle.aa_explain_rules.specs.code.Among.{among, passes_at, some_among};
 
 use crate::asked::AskedRules;
-use aa_profile_access::{Perms, Request};
-use aa_profile_data::{FileRule, Rank, Rule};
+use aa_profile_data::{FileRule, Perms, Rank, Request, Rule};
 use std::alloc::{AllocError, Global};
 
 // Whether a rule applies to a path.

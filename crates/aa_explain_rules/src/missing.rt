@@ -2,8 +2,8 @@
 
 ghost use Rattle.std.specs.Prelude.{◌≡◌, ◌<◌, ◌^◌, ℕ, IfOk, List};
 ghost use Rattle.aa_glob.specs.Laws.{needs_backslash, quoted};
-ghost use Rattle.aa_profile_access.specs.Request.{ForFile};
-ghost use Rattle.aa_profile_access.specs.SeenRequests.{request_of};
+ghost use Rattle.aa_profile_data.specs.Request.{ForFile};
+ghost use Rattle.aa_profile_data.specs.SeenRequests.{request_of};
 ghost use Rattle.aa_profile_data.specs.declared.profile.Rule.TheVariants.{File as ForFiles};
 ghost use Rattle.aa_profile_data.specs.Picked.{picked};
 ghost use Rattle.aa_explain_rules.specs.Asked.{rules_of};
@@ -12,9 +12,9 @@ ghost use Rattle.aa_explain_rules.specs.Missing.{file_rule_for, lacked, letters_
 use crate::asked::AskedRules;
 use aa_decide_rules::{covers, denies, needs};
 use aa_glob_pattern::Pattern;
-use aa_profile_access::{ExecWord, Perms, Request};
-use aa_profile_data::{CapRule, FileRule, NetRule, Rank, Rule, Transition};
-use aa_profile_tables::is_protocol;
+use aa_profile_data::{
+    CapRule, ExecWord, FileRule, NetRule, Perms, Rank, Request, Rule, Transition, is_protocol,
+};
 use bitflags::Flags;
 use std::alloc::{AllocError, Global};
 

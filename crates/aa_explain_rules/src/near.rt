@@ -1,12 +1,11 @@
 //! Rules that are near a request.
 
 ghost use Rattle.std.specs.Prelude.{◌≡◌};
-ghost use Rattle.aa_profile_access.specs.SeenRequests.{request_of};
+ghost use Rattle.aa_profile_data.specs.SeenRequests.{request_of};
 ghost use Rattle.aa_explain_rules.specs.Told.{is_near, lets_at};
 
 use aa_decide_rules::covers;
-use aa_profile_access::Request;
-use aa_profile_data::Rule;
+use aa_profile_data::{Request, Rule};
 use bitflags::Flags;
 
 // Whether a rule is an allow rule on files whose pattern matches the path that is asked for.

@@ -1,15 +1,14 @@
 //! The rule that the start of a script lacks.
 
 ghost use Rattle.std.specs.Prelude.{◌≡◌, IfOk};
-ghost use Rattle.aa_profile_access.specs.SeenRequests.{request_of};
+ghost use Rattle.aa_profile_data.specs.SeenRequests.{request_of};
 ghost use Rattle.aa_explain_rules.specs.Asked.{rules_of};
 ghost use Rattle.aa_explain_rules.specs.Missing.{lacked};
 ghost use Rattle.aa_explain_rules.specs.Scripts.{lacks_reading, script_rule, with_reading};
 
 use crate::asked::AskedRules;
 use crate::missing::{lacked, missing_rule};
-use aa_profile_access::{Perms, Request};
-use aa_profile_data::Rule;
+use aa_profile_data::{Perms, Request, Rule};
 use bitflags::Flags;
 use std::alloc::{AllocError, Global};
 

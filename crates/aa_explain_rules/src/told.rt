@@ -1,7 +1,7 @@
 //! The rules of a list that apply to a request, and those that are near it.
 
 ghost use Rattle.std.specs.Prelude.{◌≡◌, IfOk};
-ghost use Rattle.aa_profile_access.specs.SeenRequests.{request_of};
+ghost use Rattle.aa_profile_data.specs.SeenRequests.{request_of};
 ghost use Rattle.aa_explain_rules.specs.Asked.{audits_of, rules_of};
 ghost use Rattle.aa_explain_rules.specs.Told.{is_near, near, told, told_rule};
 ghost use Rattle.aa_explain_rules.specs.code.Among.{among, passes_at, told_among, told_at};
@@ -9,8 +9,7 @@ ghost use Rattle.aa_explain_rules.specs.code.Among.{among, passes_at, told_among
 use crate::asked::AskedRules;
 use crate::near::is_near;
 use aa_decide_rules::{applies, covers, denies, is_audited};
-use aa_profile_access::{Perms, Request};
-use aa_profile_data::Rule;
+use aa_profile_data::{Perms, Request, Rule};
 use std::alloc::{AllocError, Global};
 
 /// What a rule does that applies to a request.

@@ -6,13 +6,13 @@ use Rattle.std.proofs.lemmas.List.Sums.{fold-append}
 use Rattle.aa_glob_syntax.specs.Items.{Pattern}
 use Rattle.aa_glob_syntax.specs.Matching.{matches}
 use Rattle.aa_glob_syntax.specs.Reading.{items_of}
-use Rattle.aa_decide_audit.specs.declared.verdict.Answer.TheVariants.{Allow, Deny}
-use Rattle.aa_decide_audit.specs.declared.verdict.Tag.TheVariants.{Audit, Denied}
-use Rattle.aa_decide_audit.specs.declared.verdict.Verdict.{Verdict}
+use Rattle.aa_decide_rules.specs.declared.verdict.Answer.TheVariants.{Allow, Deny}
+use Rattle.aa_decide_rules.specs.declared.verdict.Tag.TheVariants.{Audit, Denied}
+use Rattle.aa_decide_rules.specs.declared.verdict.Verdict.{Verdict}
 use Rattle.aa_decide_rules.specs.Verdict.{allows, allows_aloud, audited, covered_by, covers, denied, denies, denies_aloud, granted, logged, loud, mask, needs, verdict, when_missing, with_rule}
-use Rattle.aa_decide_rules.specs.declared.verdict.Mediation.{Mediation}
-use Rattle.aa_profile_access.specs.Access.{common, union, without}
-use Rattle.aa_profile_access.specs.Request.{ForCapability, ForFile, ForSockets, Request}
+use Rattle.aa_decide_rules.specs.declared.judgement.Mediation.{Mediation}
+use Rattle.aa_profile_data.specs.Access.{common, union, without}
+use Rattle.aa_profile_data.specs.Request.{ForCapability, ForFile, ForSockets, Request}
 use Rattle.aa_profile_data.specs.declared.profile.FileRule.{FileRule}
 use Rattle.aa_profile_data.specs.declared.profile.Rule.{Rule}
 use Rattle.aa_profile_data.specs.declared.profile.Rule.TheVariants.{Cap, File, Net, Other}

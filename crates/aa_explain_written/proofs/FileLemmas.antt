@@ -1,10 +1,10 @@
 -- The file of one profile with one rule, from its tokens.
 use Rattle.std.proofs.Common.{◌≡◌, ℕ, suc, true, false, List, [], ◌∷◌, length, None, Ok, refl}
 use Rattle.std.specs.Prelude.{codes}
-use Rattle.aa_text_splicing.specs.Splicing.{Placed}
+use Rattle.aa_text_tokens.specs.Splicing.{Placed}
 use Rattle.aa_profile_parsing.specs.Tokens.{is_close_brace, is_word_of}
 use Rattle.aa_profile_parsing.specs.declared.language.Language.{Language}
-use Rattle.aa_profile_flags.specs.Flags.{unflagged}
+use Rattle.aa_profile_parsing.specs.Flags.{unflagged}
 use Rattle.aa_profile_rules.specs.Rules.{Rule, rule}
 use Rattle.aa_profile_parsing.specs.Parts.{Part}
 use Rattle.aa_profile_grammar.specs.Blocks.{Member, OfRule, Profile, all_profiles, member, next_member, next_profile, profile_behind, profile_block}

@@ -1,11 +1,13 @@
 mod DecidingLemmas
 mod FileLemmas
+mod LeadLemmas
 mod MarkLemmas
 mod MissingLemmas
 mod PatternLemmas
 mod PlainLemmas
 mod ProfileLemmas
 mod ReadBackLemmas
+mod ReadingLemmas
 mod RuleLemmas
 mod Spelling
 mod SplicingLemmas
@@ -13,4 +15,5 @@ mod StateLemmas
 mod TableLemmas
 mod TextLemmas
 mod TokenLemmas
+mod VariableLemmas
 mod WrittenLemmas

@@ -8,13 +8,13 @@ use Rattle.aa_glob_syntax.specs.Exactness.{is_exact}
 use Rattle.aa_glob_syntax.specs.Reading.{HasNoFirstFault, begins_with_slash, has_zero, items_of, items_read, longest, reading}
 use Rattle.aa_decide_rules.specs.Verdict.{denied}
 use Rattle.aa_explain_rules.specs.Missing.{cap_rule_for, file_rule_for, lacked, letters_for, missing_rule, net_rule_for, rank_for, rule_for, transition_for}
-use Rattle.aa_profile_access.specs.Access.{APPEND, EXEC, WRITE, asked_letters, has}
-use Rattle.aa_profile_access.specs.Request.{ForCapability, ForFile, ForSockets, Request}
+use Rattle.aa_profile_data.specs.Access.{APPEND, EXEC, WRITE, asked_letters, has}
+use Rattle.aa_profile_data.specs.Request.{ForCapability, ForFile, ForSockets, Request}
 use Rattle.aa_profile_data.specs.Ranks.{same_rank}
 use Rattle.aa_profile_data.specs.declared.profile.FileRule.{FileRule}
 use Rattle.aa_profile_data.specs.declared.profile.Rule.{Rule}
 use Rattle.aa_profile_data.specs.declared.profile.Rule.TheVariants.{Cap, File, Net, Other}
-use Rattle.aa_profile_tables.specs.Kinds.{is_protocol}
+use Rattle.aa_profile_data.specs.Kinds.{is_protocol}
 use Rattle.aa_explain_written.specs.Quotes.{between_quotes, fits_quotes, needs_escape}
 use Rattle.aa_explain_written.specs.ReadBack.{IsOfOne, IsOfPath, needs_no_escape, needs_none_behind}
 use Rattle.aa_explain_written.specs.Written.{file_text, has_access, has_no_more, is_file_written, rank_of_one, written_rule}

@@ -12,22 +12,22 @@ use Rattle.aa_profile_data.specs.declared.profile.FileRule.{FileRule}
 use Rattle.aa_profile_data.specs.declared.profile.Profile.{Profile}
 use Rattle.aa_profile_data.specs.declared.profile.Rule.{Rule}
 use Rattle.aa_profile_data.specs.declared.profile.Rule.TheVariants.{File as OfFile}
-use Rattle.aa_profile_errors.specs.ProfileError.{placed as placed_refusal}
-use Rattle.aa_profile_errors.specs.declared.profile_error.ProfileRefusal.TheVariants.{ExecConflict, ManyStates}
+use Rattle.aa_profile_parsing.specs.ProfileError.{placed as placed_refusal}
+use Rattle.aa_profile_parsing.specs.declared.profile_error.ProfileRefusal.TheVariants.{ExecConflict, ManyStates}
 use Rattle.aa_profile_parsing.specs.Tokens.{place_of}
 use Rattle.aa_profile_grammar.specs.Blocks.{OfRule}
 use Rattle.aa_profile_grammar.specs.Files.{File, file}
-use Rattle.aa_profile_making.specs.Profiles.{profile_of, rules_of_members, rules_of_rule}
+use Rattle.aa_profile.specs.Profiles.{profile_of, rules_of_members, rules_of_rule}
 use Rattle.aa_profile_parsing.specs.declared.language.Language.{Language}
 use Rattle.aa_profile_parsing.specs.declared.language.Language.TheVariants.{Four, Three}
-use Rattle.aa_profile_patterns.specs.PatternTokens.{of_profiles}
-use Rattle.aa_profile_patterns.specs.Patterns.{collapsed, first_bad, over_limit, refusal_of_expansion}
+use Rattle.aa_profile_grammar.specs.PatternTokens.{of_profiles}
+use Rattle.aa_profile_grammar.specs.Patterns.{collapsed, first_bad, over_limit, refusal_of_expansion}
 use Rattle.aa_profile_rules.specs.Rules.{OnCapabilities, OnFile, OnNetwork, Rule as WrittenRule}
 use Rattle.aa_profile_rules.specs.declared.access.Access.{Access}
 use Rattle.aa_profile_rules.specs.declared.networks.Sockets.{Sockets}
 use Rattle.aa_profile_rules.specs.declared.qualifiers.Qualifiers.{Qualifiers}
 use Rattle.aa_text_files.specs.Files.{File as HandedIn}
-use Rattle.aa_text_splicing.specs.Splicing.{Placed, spliced}
+use Rattle.aa_text_tokens.specs.Splicing.{Placed, spliced}
 use Rattle.aa_explain_written.specs.ReadBack.{profile_of_one}
 use Rattle.aa_explain_written.proofs.FileLemmas.{profile_with}
 use Rattle.aa_explain_written.proofs.MarkLemmas.{marked}

@@ -15,9 +15,9 @@ use Rattle.aa_profile_data.specs.declared.profile.FileRule.{FileRule}
 use Rattle.aa_profile_data.specs.declared.profile.Profile.{Profile}
 use Rattle.aa_profile_data.specs.declared.profile.Rank.TheVariants.{Loose, Plain}
 use Rattle.aa_profile_data.specs.declared.profile.Rule.TheVariants.{File as OfFile}
-use Rattle.aa_profile_access.specs.declared.exec_word.ExecWord.TheVariants.{Inherit}
+use Rattle.aa_profile_data.specs.declared.exec_word.ExecWord.TheVariants.{Inherit}
 use Rattle.aa_profile_grammar.specs.Files.{File, file}
-use Rattle.aa_profile_making.specs.Profiles.{rules_of_rule}
+use Rattle.aa_profile.specs.Profiles.{rules_of_rule}
 use Rattle.aa_profile_parsing.specs.declared.language.Language.{Language}
 use Rattle.aa_profile_rules.specs.Qualifiers.{unqualified}
 use Rattle.aa_profile_rules.specs.Rules.{OnFile}

@@ -1,9 +1,9 @@
 -- How the tokens of written rules are read.
 use Rattle.std.proofs.Common.{◌≡◌, ℕ, ◌^◌, true, false, List, [], ◌∷◌, ◌++◌, None, Some, Ok, refl}
 use Rattle.std.specs.Prelude.{codes}
-use Rattle.aa_profile_tables.specs.Capabilities.{capability_number}
-use Rattle.aa_profile_tables.specs.Domains.{domain_number}
-use Rattle.aa_profile_tables.specs.Kinds.{is_protocol, kind_number}
+use Rattle.aa_profile_data.specs.Capabilities.{capability_number}
+use Rattle.aa_profile_data.specs.Domains.{domain_number}
+use Rattle.aa_profile_data.specs.Kinds.{is_protocol, kind_number}
 use Rattle.aa_profile_parsing.specs.declared.language.Language.{Language}
 use Rattle.aa_profile_parsing.specs.declared.language.Language.TheVariants.{Four, Three}
 use Rattle.aa_profile_rules.specs.Access.{access_of}
@@ -11,7 +11,7 @@ use Rattle.aa_profile_rules.specs.Qualifiers.{unqualified}
 use Rattle.aa_profile_rules.specs.Rules.{OnCapabilities, OnFile, OnNetwork, rule}
 use Rattle.aa_profile_rules.specs.declared.access.Access.{Access}
 use Rattle.aa_profile_rules.specs.declared.qualifiers.Qualifiers.{Qualifiers}
-use Rattle.aa_text_splicing.specs.Splicing.{Placed}
+use Rattle.aa_text_tokens.specs.Splicing.{Placed}
 use Rattle.aa_explain_written.proofs.Spelling.{Spans, a_comma, in_quotes, placed, placed_at, word}
 
 -- the words before a rule that is the owner's alone

@@ -2,7 +2,7 @@
 use Rattle.std.specs.Prelude.{◌≡◌, ℕ, zero, suc, false, List, [], ◌∷◌, Ok}
 use Rattle.aa_text_tokens.specs.Cut.{Seen, cut}
 use Rattle.aa_bytes.specs.Bytes.{closing_brace, comma, opening_brace}
-use Rattle.aa_text_splicing.specs.Splicing.{Placed}
+use Rattle.aa_text_tokens.specs.Splicing.{Placed}
 use Rattle.aa_text_tokens.specs.declared.cut.TokenKind.{TokenKind}
 use Rattle.aa_text_tokens.specs.declared.cut.TokenKind.TheVariants.{CloseBrace, Comma, OpenBrace, Quoted, Word}
 

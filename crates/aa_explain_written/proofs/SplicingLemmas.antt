@@ -6,7 +6,7 @@ use Rattle.std.proofs.lemmas.Bool.{and_parts, cases_Bool, le-leb}
 use Rattle.aa_bytes.specs.Texts.{has_byte}
 use Rattle.aa_text_files.specs.Files.{File, bytes_at, bytes_of, file_at, file_named, index_from, is_folder_name}
 use Rattle.aa_text_files.specs.Limit.{most_bytes}
-use Rattle.aa_text_splicing.specs.Splicing.{Way, and_then, entered, spliced, tokens_of, walked, within}
+use Rattle.aa_text_tokens.specs.Splicing.{Way, and_then, entered, spliced, tokens_of, walked, within}
 use Rattle.aa_text_tokens.specs.Cut.{cut}
 use Rattle.aa_text_tokens.specs.declared.cut.TokenKind.{TokenKind}
 use Rattle.aa_text_tokens.specs.declared.cut.TokenKind.TheVariants.{Assign, CloseBrace, Comma, Include, OpenBrace, Quoted, Value, Word}

@@ -4,7 +4,7 @@ use Rattle.std.specs.List.{list_any}
 use Rattle.std.proofs.lemmas.Bool.{cases_Bool, le-ltb}
 use Rattle.std.proofs.lemmas.List.{length-append, length-reverse}
 use Rattle.aa_bytes.specs.Bytes.{comma}
-use Rattle.aa_glob_automaton.specs.States.{same_trail, state_count, with_beginning, with_beginnings}
+use Rattle.aa_glob.specs.States.{same_trail, state_count, with_beginning, with_beginnings}
 use Rattle.aa_glob_pattern.specs.Trails.{Trail, grouped, trail_of}
 use Rattle.aa_glob_syntax.specs.Elements.{elements}
 use Rattle.aa_glob_syntax.specs.Reading.{longest}

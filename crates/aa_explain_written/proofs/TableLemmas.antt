@@ -4,15 +4,15 @@ use Rattle.std.specs.Prelude.{◌||◌, codes, slice_get}
 use Rattle.std.proofs.lemmas.Option.{slice_get_within}
 use Rattle.aa_profile_parsing.specs.declared.fault.GrammarRefusal.{GrammarRefusal}
 use Rattle.std.proofs.lemmas.Bool.{and_parts, cases_eq, eqb-true}
-use Rattle.aa_profile_access.specs.Access.{APPEND, WRITE, has, letters_of}
-use Rattle.aa_profile_access.specs.ExecWords.{same_word}
+use Rattle.aa_profile_data.specs.Access.{APPEND, WRITE, has, letters_of}
+use Rattle.aa_profile_data.specs.ExecWords.{same_word}
 use Rattle.aa_profile_rules.specs.Access.{access_of}
 use Rattle.aa_profile_rules.specs.declared.access.Access.{Access}
-use Rattle.aa_profile_access.specs.declared.exec_word.ExecWord.{ExecWord}
-use Rattle.aa_profile_access.specs.declared.exec_word.ExecWord.TheVariants.{Inherit}
-use Rattle.aa_profile_tables.specs.Capabilities.{capability_number, names}
-use Rattle.aa_profile_tables.specs.Domains.{domain_number, names as domains}
-use Rattle.aa_profile_tables.specs.Kinds.{kind_number, names as kinds}
+use Rattle.aa_profile_data.specs.declared.exec_word.ExecWord.{ExecWord}
+use Rattle.aa_profile_data.specs.declared.exec_word.ExecWord.TheVariants.{Inherit}
+use Rattle.aa_profile_data.specs.Capabilities.{capability_number, names}
+use Rattle.aa_profile_data.specs.Domains.{domain_number, names as domains}
+use Rattle.aa_profile_data.specs.Kinds.{kind_number, names as kinds}
 use Rattle.aa_explain_written.proofs.TokenLemmas.{is_name}
 
 -- each number below one passes a test

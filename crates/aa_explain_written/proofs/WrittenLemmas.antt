@@ -10,9 +10,9 @@ use Rattle.aa_glob_syntax.specs.Exactness.{is_exact}
 use Rattle.aa_glob_syntax.specs.Reading.{HasNoFirstFault, items_of, longest}
 use Rattle.aa_text_files.specs.Files.{File as HandedIn}
 use Rattle.aa_profile.specs.FileReading.{file_profiles_in}
-use Rattle.aa_profile_access.specs.Access.{APPEND, WRITE, asked_letters, has, letters_of}
-use Rattle.aa_profile_access.specs.ExecWords.{same_word}
-use Rattle.aa_profile_access.specs.declared.exec_word.ExecWord.TheVariants.{Inherit}
+use Rattle.aa_profile_data.specs.Access.{APPEND, WRITE, asked_letters, has, letters_of}
+use Rattle.aa_profile_data.specs.ExecWords.{same_word}
+use Rattle.aa_profile_data.specs.declared.exec_word.ExecWord.TheVariants.{Inherit}
 use Rattle.aa_profile_data.specs.Ranks.{same_rank}
 use Rattle.aa_profile_data.specs.declared.profile.CapRule.{CapRule}
 use Rattle.aa_profile_data.specs.declared.profile.FileRule.{FileRule}
@@ -26,9 +26,9 @@ use Rattle.aa_profile_parsing.specs.declared.language.Language.{Language}
 use Rattle.aa_profile_rules.specs.Qualifiers.{unqualified}
 use Rattle.aa_profile_rules.specs.Rules.{OnCapabilities, OnNetwork}
 use Rattle.aa_profile_rules.specs.declared.networks.Sockets.{Sockets}
-use Rattle.aa_profile_tables.specs.Capabilities.{names}
-use Rattle.aa_profile_tables.specs.Domains.{domain_name}
-use Rattle.aa_profile_tables.specs.Kinds.{is_protocol, kind_name}
+use Rattle.aa_profile_data.specs.Capabilities.{names}
+use Rattle.aa_profile_data.specs.Domains.{domain_name}
+use Rattle.aa_profile_data.specs.Kinds.{is_protocol, kind_name}
 use Rattle.aa_explain_written.specs.Quotes.{between_quotes, fits_quotes}
 use Rattle.aa_explain_written.specs.ReadBack.{HasFileOf, IsOfOne, as_read, profile_of_one}
 use Rattle.aa_explain_written.specs.Written.{access_text, file_text, has_access, has_no_more, is_file_written, is_inherited, name_of_one, rank_of_one, type_name, word_text, written_capability, written_file, written_network, written_rule}

@@ -1,3 +1,4 @@
+pub mod EarlierRules
 pub mod Quotes
 pub mod ReadBack
 pub mod Written

@@ -4,9 +4,9 @@ use Rattle.std.specs.Option.{option_map}
 use Rattle.aa_bytes.specs.Bytes.{comma, quote, space}
 use Rattle.aa_glob_syntax.specs.Exactness.{is_exact}
 use Rattle.aa_glob_syntax.specs.Reading.{items_of}
-use Rattle.aa_profile_access.specs.Access.{APPEND, WRITE, asked_letters, has, letters_of}
-use Rattle.aa_profile_access.specs.ExecWords.{row, same_word}
-use Rattle.aa_profile_access.specs.declared.exec_word.ExecWord.TheVariants.{Inherit}
+use Rattle.aa_profile_data.specs.Access.{APPEND, WRITE, asked_letters, has, letters_of}
+use Rattle.aa_profile_data.specs.ExecWords.{row, same_word}
+use Rattle.aa_profile_data.specs.declared.exec_word.ExecWord.TheVariants.{Inherit}
 use Rattle.aa_profile_data.specs.Ranks.{same_rank}
 use Rattle.aa_profile_data.specs.declared.profile.CapRule.{CapRule}
 use Rattle.aa_profile_data.specs.declared.profile.FileRule.{FileRule}
@@ -16,9 +16,9 @@ use Rattle.aa_profile_data.specs.declared.profile.Rank.TheVariants.{Loose, Plain
 use Rattle.aa_profile_data.specs.declared.profile.Rule.{Rule}
 use Rattle.aa_profile_data.specs.declared.profile.Rule.TheVariants.{Cap, File, Net, Other}
 use Rattle.aa_profile_data.specs.declared.profile.Transition.{Transition}
-use Rattle.aa_profile_tables.specs.Capabilities.{names}
-use Rattle.aa_profile_tables.specs.Domains.{domain_name}
-use Rattle.aa_profile_tables.specs.Kinds.{is_protocol, kind_name}
+use Rattle.aa_profile_data.specs.Capabilities.{names}
+use Rattle.aa_profile_data.specs.Domains.{domain_name}
+use Rattle.aa_profile_data.specs.Kinds.{is_protocol, kind_name}
 use Rattle.aa_explain_written.specs.Quotes.{between_quotes, fits_quotes}
 
 -- an exec word, where a rule has one

@@ -2,7 +2,7 @@
 
 ghost use Rattle.std.specs.Prelude.{◌≡◌, ◌<◌, [], ◌∷◌, ◌++◌, ℕ, Bool, is_some, List, Ok, Some, true};
 ghost use Rattle.aa_decide_rules.specs.Verdict.{verdict};
-ghost use Rattle.aa_decide_rules.specs.declared.verdict.Mediation.{Mediation};
+ghost use Rattle.aa_decide_rules.specs.declared.judgement.Mediation.{Mediation};
 ghost use Rattle.aa_explain_rules.specs.Missing.{missing_rule};
 ghost use Rattle.aa_explain_written.specs.Quotes.{between_quotes, fits_quotes};
 ghost use Rattle.aa_explain_written.specs.ReadBack.{as_read, HasFileOf, IsOfOne, IsOfPath, needs_no_escape, profile_of_one};
@@ -10,8 +10,8 @@ ghost use Rattle.aa_explain_written.specs.Written.{written_rule};
 ghost use Rattle.aa_glob.specs.Laws.{quoted};
 ghost use Rattle.aa_glob_syntax.specs.Reading.{items_of};
 ghost use Rattle.aa_profile.specs.FileReading.{file_profiles_in};
-ghost use Rattle.aa_profile_access.specs.Access.{all_letters};
-ghost use Rattle.aa_profile_access.specs.Request.{ForCapability, ForFile, ForSockets, Request};
+ghost use Rattle.aa_profile_data.specs.Access.{all_letters};
+ghost use Rattle.aa_profile_data.specs.Request.{ForCapability, ForFile, ForSockets, Request};
 ghost use Rattle.aa_profile_data.specs.declared.profile.Rule.{Rule};
 ghost use Rattle.aa_profile_parsing.specs.declared.language.Language.{Language};
 ghost use Rattle.aa_text_files.specs.Files.{File};

@@ -9,10 +9,9 @@ ghost use Rattle.aa_explain_written.specs.Written.{lets_of_one, rank_of_one, typ
 ghost use Rattle.aa_explain_written.specs.Written.{written_capability, written_file, written_network, written_rule};
 
 use crate::quotes::{between_quotes, fits_quotes};
-use aa_profile_access::{ExecWord, Perms};
-use aa_profile_data::{CapRule, FileRule, NetRule, Rank, Rule, Transition};
-use aa_profile_tables::{
-    CAPABILITIES, domain_name, is_protocol, kind_name, which_names_tables_hold,
+use aa_profile_data::{
+    CAPABILITIES, CapRule, ExecWord, FileRule, NetRule, Perms, Rank, Rule, Transition, domain_name,
+    is_protocol, kind_name, which_names_tables_hold,
 };
 use bitflags::Flags;
 use std::alloc::{AllocError, Global};

@@ -1,2 +1,17 @@
+pub mod BuiltLemmas
+pub mod ClashLemmas
+pub mod EntryLemmas
+pub mod FindLemmas
+pub mod FollowLemmas
+pub mod GrowthLemmas
 pub mod MatchingLaws
+pub mod NumberLemmas
+pub mod ReachLemmas
 pub mod ReadingLaws
+pub mod SeenLemmas
+pub mod StandLemmas
+pub mod StateLemmas
+pub mod StepLemmas
+pub mod TreeLemmas
+pub mod VisitLemmas
+pub mod WayLemmas

@@ -1,8 +1,14 @@
 pub mod BlockLemmas
+pub mod CountLemmas
+pub mod FrontLemmas
 pub mod GrownLemmas
+pub mod LeadLemmas
 pub mod LeavingLemmas
 pub mod ListLemmas
 pub mod MapLemmas
 pub mod PackedLemmas
+pub mod RunLemmas
 pub mod SoundLemmas
+pub mod StepLemmas
 pub mod TableLemmas
+pub mod VisitLemmas

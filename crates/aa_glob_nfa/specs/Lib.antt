@@ -1,5 +1,10 @@
 pub mod Entries
+pub mod Fronts
 pub mod Graphs
+pub mod Laws
 pub mod OfTables
+pub mod Runs
+pub mod Steps
 pub mod Tables
+pub mod Visits
 pub mod code

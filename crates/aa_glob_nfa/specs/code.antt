@@ -1,3 +1,5 @@
 -- How the tables of a graph are kept: states in two bytes, and where the ways of each block of them begin.
 pub mod Blocks
+pub mod Marks
 pub mod PackedStates
+pub mod Passes

@@ -8,7 +8,7 @@ use Rattle.aa_glob_nfa.specs.Graphs.{EndsAt}
 use Rattle.aa_glob_nfa.specs.OfTables.{graph_of}
 use Rattle.aa_glob_nfa.specs.declared.state.End.{End}
 use Rattle.aa_glob_nfa.specs.declared.tables.Tables.{Tables}
-use Rattle.aa_glob_waiting.proofs.GainLemmas.{nothing_there}
+use Rattle.aa_glob_pairs.proofs.GainLemmas.{nothing_there}
 use Rattle.aa_glob_pairs.specs.Graphs.{AreEndingsOf, class_at}
 use Rattle.aa_glob_pairs.specs.code.Gathered.{AreGathered}
 use Rattle.aa_glob_pairs.specs.declared.ends.Ending.{Ending}

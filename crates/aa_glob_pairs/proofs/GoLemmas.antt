@@ -5,10 +5,10 @@ use Rattle.std.proofs.lemmas.List.Elements.{Contains-append_cases, Contains-appe
 use Rattle.std.specs.Prelude.{Contains}
 use Rattle.aa_glob_pairs.specs.Bytes.{IsShared}
 use Rattle.aa_glob_pairs.specs.Nodes.{AreShared, FollowsBy, HasStep}
-use Rattle.aa_glob_waiting.specs.Waiting.{Gains, Ordered}
+use Rattle.aa_glob_pairs.specs.Waiting.{Gains, Ordered}
 use Rattle.aa_glob_pairs.specs.declared.moves.Moves.{Moves}
 use Rattle.aa_glob_pairs.specs.declared.moves.Step.{Step}
-use Rattle.aa_glob_waiting.proofs.GainLemmas.{nothing_there, pairs_as, pairs_then}
+use Rattle.aa_glob_pairs.proofs.GainLemmas.{nothing_there, pairs_as, pairs_then}
 
 abbrev Rows : Type 0
 Rows = List (ℕ × List ℕ)

@@ -3,7 +3,7 @@ use Rattle.std.proofs.Common.{◌≡◌, ◌⊎◌, ◌↔◌, ℕ, ◌+◌, ◌
 use Rattle.std.proofs.lemmas.List.{take_more}
 use Rattle.std.proofs.lemmas.List.Elements.{Contains-append_cases, Contains-append_left, Contains-append_right, Contains-push, Contains-push_cases}
 use Rattle.std.specs.Prelude.{Contains}
-use Rattle.aa_glob_waiting.proofs.GainLemmas.{nothing_there}
+use Rattle.aa_glob_pairs.proofs.GainLemmas.{nothing_there}
 use Rattle.aa_glob_pairs.specs.Clashes.{Clash, IsLeast, Lowers}
 use Rattle.aa_glob_pairs.specs.declared.ends.Ending.{Ending}
 

@@ -1,8 +1,11 @@
 pub mod BelowLemmas
 pub mod ClashLemmas
+pub mod EncodingLemmas
 pub mod EndLemmas
+pub mod GainLemmas
 pub mod GoLemmas
 pub mod LeastLemmas
 pub mod MeetLemmas
 pub mod MoveLemmas
 pub mod ProgressLemmas
+pub mod RowLemmas

@@ -11,7 +11,7 @@ use Rattle.aa_glob_nfa.specs.declared.entry.Entry.TheVariants.{Free, Byte, Insid
 use Rattle.aa_glob_nfa.specs.declared.state.Gate.{Gate}
 use Rattle.aa_glob_nfa.specs.OfTables.{graph_of}
 use Rattle.aa_glob_nfa.specs.declared.tables.Tables.{Tables}
-use Rattle.aa_glob_waiting.proofs.GainLemmas.{nothing_there}
+use Rattle.aa_glob_pairs.proofs.GainLemmas.{nothing_there}
 use Rattle.aa_glob_pairs.specs.Bytes.{in_bytes, is_among}
 use Rattle.aa_glob_pairs.specs.Graphs.{AreMoves}
 use Rattle.aa_glob_pairs.specs.Nodes.{HasStep}

@@ -6,7 +6,7 @@ use Rattle.std.proofs.lemmas.List.Elements.{All-contains, All-nil, All-push, All
 use Rattle.std.proofs.lemmas.Option.{get_or_from_slice_get, slice_get_within}
 use Rattle.std.specs.Prelude.{All, Bool, Contains, false, slice_get, slice_index_or, true}
 use Rattle.aa_glob_pairs.proofs.BelowLemmas.{clash-covered, clash-turned}
-use Rattle.aa_glob_waiting.proofs.GainLemmas.{nothing_there, pairs_as, pairs_nothing, passed_other, passed_there, same_or_not}
+use Rattle.aa_glob_pairs.proofs.GainLemmas.{nothing_there, pairs_as, pairs_nothing, passed_other, passed_there, same_or_not}
 use Rattle.aa_glob_pairs.proofs.LeastLemmas.{lowers_as, lowers_nothing}
 use Rattle.aa_glob_nfa.specs.Graphs.{EndsAt, Graph}
 use Rattle.aa_glob_pairs.specs.Below.{can_clash}
@@ -14,7 +14,7 @@ use Rattle.aa_glob_pairs.specs.Clashes.{Clash, IsAtMost, IsLeast, Lowers}
 use Rattle.aa_glob_pairs.specs.Graphs.{AreBelow, AreEndingsOf, AreMoves, class_at, Goes, IsLaid}
 use Rattle.aa_glob_pairs.specs.Nodes.{FollowsBy}
 use Rattle.aa_glob_pairs.specs.Pairs.{Classed, ClashOf, Follows, goes, GoTogether, MayClash, MeetsAt, Met, start, states_of}
-use Rattle.aa_glob_waiting.specs.Waiting.{Gains, Ordered, row_at, SetsRow, Waits}
+use Rattle.aa_glob_pairs.specs.Waiting.{Gains, Ordered, row_at, SetsRow, Waits}
 use Rattle.aa_glob_pairs.specs.code.Progress.{IsDone, IsMeeting, IsSeen, no_marks}
 use Rattle.aa_glob_pairs.specs.declared.below.Below.{Below}
 use Rattle.aa_glob_pairs.specs.declared.below.Below.TheVariants.{Nothing}

@@ -1,7 +1,9 @@
-pub mod code
 pub mod Below
 pub mod Bytes
 pub mod Clashes
 pub mod Graphs
 pub mod Nodes
 pub mod Pairs
+pub mod Places
+pub mod Waiting
+pub mod code

@@ -1,16 +1,23 @@
-//! One graph run along two texts at once: which pairs of states one text reaches, and where patterns of different classes meet so.
+//! One graph run along two texts at once: which pairs of states one text reaches, and where patterns of different classes meet so. Pairs that wait to be
+//! looked at are kept by their first number.
 #![tactic(auto)]
 
 mod below;
 mod belows;
 mod bytes;
 mod clash;
+mod encoding;
 mod ends;
 mod meeting;
 mod moves;
 mod nodes;
+mod place;
+mod rows;
 mod visit;
+mod waiting;
 
 pub use below::Below;
 pub use belows::{Belows, belows_of};
 pub use clash::first_clash;
+pub use place::Place;
+pub use waiting::Waiting;

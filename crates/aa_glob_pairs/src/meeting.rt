@@ -5,15 +5,16 @@ ghost use Rattle.aa_glob_nfa.specs.OfTables.{graph_of};
 ghost use Rattle.aa_glob_pairs.specs.Clashes.{IsLeast};
 ghost use Rattle.aa_glob_pairs.specs.Graphs.{IsNodeOf};
 ghost use Rattle.aa_glob_pairs.specs.Pairs.{AreReady, MeetsAt, classed};
-ghost use Rattle.aa_glob_waiting.specs.Waiting.{IsFrontOf, row_at};
+ghost use Rattle.aa_glob_pairs.specs.Waiting.{IsFrontOf, row_at};
 ghost use Rattle.aa_glob_pairs.specs.code.Progress.{IsMeeting, no_marks};
 
 use crate::belows::Belows;
 use crate::ends::lower_both;
 use crate::nodes::{Node, put_node};
+use crate::place::Place;
 use crate::visit::visit;
+use crate::waiting::Waiting;
 use aa_glob_nfa::Tables;
-use aa_glob_waiting::{Place, Waiting};
 use std::alloc::{AllocError, Global};
 
 /// How far the pairs were looked at.

@@ -2,11 +2,11 @@
 
 ghost use Rattle.std.specs.Prelude.{◌≡◌, ◌∷◌, [], Contains, OnOk};
 ghost use Rattle.aa_glob_pairs.specs.Nodes.{AreShared, FollowsBy};
-ghost use Rattle.aa_glob_waiting.specs.Waiting.{Gains, Ordered};
+ghost use Rattle.aa_glob_pairs.specs.Waiting.{Gains, Ordered};
 
 use crate::bytes::share;
 use crate::moves::{Moves, Step};
-use aa_glob_waiting::Waiting;
+use crate::waiting::Waiting;
 use std::alloc::AllocError;
 
 /// The pairs that follow from one wait, too; `AllocError` where memory ran out.

@@ -1,3 +1,12 @@
+pub mod AlikeLemmas
+pub mod FoundLemmas
+pub mod LiveLemmas
 pub mod OutcomeLemmas
 pub mod PathLemmas
+pub mod PlaceLemmas
+pub mod RisingLemmas
+pub mod SettledLemmas
 pub mod StandLemmas
+pub mod TextLemmas
+pub mod ToldLemmas
+pub mod WantedLemmas

@@ -8,17 +8,17 @@ use Rattle.std.proofs.lemmas.List.Quantifiers.{all_pairs_push}
 use Rattle.std.specs.Prelude.{All, Bool, Contains, false, is_some, not, true, ◌&&◌}
 use Rattle.aa_glob_nfa.specs.Graphs.{Graph}
 use Rattle.aa_glob_nfa.proofs.ListLemmas.{Contains-map}
-use Rattle.aa_glob_sets.specs.Found.{AreByLength, FoundSet, IsFoundBehind, set_at}
-use Rattle.aa_glob_sets.specs.Laws.{EndIn}
-use Rattle.aa_glob_sets.specs.Settled.{passed_over_class}
-use Rattle.aa_glob_sets.specs.Wanted.{wanted_class}
+use Rattle.aa_glob_paths.specs.Found.{AreByLength, FoundSet, IsFoundBehind, set_at}
+use Rattle.aa_glob_paths.specs.SetLaws.{EndIn}
+use Rattle.aa_glob_paths.specs.Settled.{passed_over_class}
+use Rattle.aa_glob_paths.specs.Wanted.{wanted_class}
 use Rattle.aa_glob_nfa.specs.OfTables.{graph_of}
 use Rattle.aa_glob_nfa.specs.declared.tables.Tables.{Tables}
 use Rattle.aa_glob_pairs.specs.Graphs.{class_at}
 use Rattle.aa_glob_pairs.specs.Pairs.{AreClassed}
 use Rattle.aa_glob_paths.specs.AllPaths.{AreTold}
 use Rattle.aa_glob_paths.proofs.PathLemmas.{same-ends}
-use Rattle.aa_glob_sets.proofs.PlaceLemmas.{kept_at, key-kept, none-kept}
+use Rattle.aa_glob_paths.proofs.PlaceLemmas.{kept_at, key-kept, none-kept}
 use Rattle.aa_glob_paths.specs.code.AllTexts.{AreOutcomesBefore, are_told, has_class, HasSetOf, IsFoundBy, IsOfEarlier}
 use Rattle.aa_glob_paths.specs.code.Kept.{Entry, kept_outcomes, outcome_of}
 use Rattle.aa_glob_paths.specs.declared.outcome.Outcome.{Outcome}

@@ -5,29 +5,29 @@ use Rattle.std.proofs.lemmas.Option.{slice_get-get_or}
 use Rattle.std.proofs.lemmas.List.Elements.{All-contains, All-nil, All-weaker, Contains-get_or}
 use Rattle.std.specs.Prelude.{Contains, IfSome, None, Ok, Option, Some}
 use Rattle.aa_glob_nfa.specs.Graphs.{AreBytes, EndsAt, Graph, IsFound, Reaches}
-use Rattle.aa_glob_front.specs.Runs.{IsWhole}
-use Rattle.aa_glob_front.proofs.RunLemmas.{Contains-slice_get}
+use Rattle.aa_glob_nfa.specs.Runs.{IsWhole}
+use Rattle.aa_glob_nfa.proofs.RunLemmas.{Contains-slice_get}
 use Rattle.aa_glob_pairs.specs.Graphs.{IsLaid}
 use Rattle.aa_glob_pairs.proofs.MeetLemmas.{there}
 use Rattle.aa_glob_run.specs.Ends.{IsEndIn}
-use Rattle.aa_glob_automaton.proofs.ClashLemmas.{bytes-reverse, graph-laid}
-use Rattle.aa_glob_sets.specs.Found.{FoundSet, set_at}
-use Rattle.aa_glob_sets.specs.Laws.{EndIn, NotPassedOverIsUnsettled}
-use Rattle.aa_glob_sets.specs.Reachable.{AreMoreThan, AreReachable}
-use Rattle.aa_glob_sets.specs.Settled.{IsPassedOver, MarksSettled}
-use Rattle.aa_glob_sets.specs.Wanted.{MarksWanted}
-use Rattle.aa_glob_automaton.specs.Automata.{IsGraphOf}
-use Rattle.aa_glob_automaton.proofs.BuiltLemmas.{matching-found}
-use Rattle.aa_glob_automaton.proofs.GrowthLemmas.{patterns-contain}
-use Rattle.aa_glob_automaton.specs.Drawn.{trail_at}
-use Rattle.aa_glob_automaton.specs.Laws.{ReachingIsReading, ReachingTheEndIsMatching}
-use Rattle.aa_glob_automaton.specs.Visits.{IsReadOf}
+use Rattle.aa_glob.proofs.ClashLemmas.{bytes-reverse, graph-laid}
+use Rattle.aa_glob_paths.specs.Found.{FoundSet, set_at}
+use Rattle.aa_glob_paths.specs.SetLaws.{EndIn, NotPassedOverIsUnsettled}
+use Rattle.aa_glob_paths.specs.Reachable.{AreMoreThan, AreReachable}
+use Rattle.aa_glob_paths.specs.Settled.{IsPassedOver, MarksSettled}
+use Rattle.aa_glob_paths.specs.Wanted.{MarksWanted}
+use Rattle.aa_glob.specs.Automata.{IsGraphOf}
+use Rattle.aa_glob.proofs.BuiltLemmas.{matching-found}
+use Rattle.aa_glob.proofs.GrowthLemmas.{patterns-contain}
+use Rattle.aa_glob.specs.Drawn.{trail_at}
+use Rattle.aa_glob.specs.GraphLaws.{ReachingIsReading, ReachingTheEndIsMatching}
+use Rattle.aa_glob.specs.Visits.{IsReadOf}
 use Rattle.aa_glob_pattern.specs.Trails.{Trail, trail_of}
 use Rattle.aa_glob_syntax.specs.Reading.{items_of, reading}
 use Rattle.aa_glob_syntax.specs.Patterns.{AreMatching, IsPatternAt}
 use Rattle.aa_glob_paths.specs.AllPaths.{AreTold, IsOutcome, SamePlaces, TellAllPaths}
 use Rattle.aa_glob_paths.specs.TooMany.{AreMoreTextsThan}
-use Rattle.aa_glob_sets.proofs.RisingLemmas.{rise-same}
+use Rattle.aa_glob_paths.proofs.RisingLemmas.{rise-same}
 use Rattle.aa_glob_paths.specs.code.AllTexts.{AreOutcomesBefore, IsFoundBy, TellAllTexts}
 use Rattle.aa_glob_paths.specs.declared.outcome.Outcome.{Outcome}
 

@@ -2,8 +2,8 @@
 use Rattle.std.specs.Prelude.{◌≡◌, ℕ, ◌≤◌, true, List, length, map, Contains}
 use Rattle.aa_glob_nfa.specs.Graphs.{AreBytes}
 use Rattle.aa_glob_pairs.specs.Graphs.{class_at}
-use Rattle.aa_glob_sets.specs.Settled.{passed_over_class}
-use Rattle.aa_glob_sets.specs.Wanted.{wanted_class}
+use Rattle.aa_glob_paths.specs.Settled.{passed_over_class}
+use Rattle.aa_glob_paths.specs.Wanted.{wanted_class}
 use Rattle.aa_glob_syntax.specs.Matching.{matches}
 use Rattle.aa_glob_syntax.specs.Patterns.{AreMatching, IsPatternAt}
 use Rattle.aa_glob_syntax.specs.Reading.{items_of}

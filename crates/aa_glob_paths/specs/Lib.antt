@@ -1,4 +1,10 @@
+pub mod Alike
 pub mod AllPaths
+pub mod Found
 pub mod Laws
+pub mod Reachable
+pub mod SetLaws
+pub mod Settled
 pub mod TooMany
+pub mod Wanted
 pub mod code

@@ -1,6 +1,6 @@
 -- When there are too many different paths to tell of all.
 use Rattle.std.specs.Prelude.{◌↔◌, ℕ, ◌<◌, List, length, All, AllPairs}
-use Rattle.aa_glob_automaton.specs.Visits.{IsReadOf}
+use Rattle.aa_glob.specs.Visits.{IsReadOf}
 use Rattle.aa_glob_nfa.specs.Graphs.{AreBytes}
 use Rattle.aa_glob_pattern.specs.Trails.{Trail}
 

@@ -1,13 +1,13 @@
 //! The outcomes of all paths.
 
 ghost use Rattle.std.specs.Prelude.{◌≡◌, ℕ, List, IfOk, IfSome, None};
-ghost use Rattle.aa_glob_automaton.specs.Automata.{AreClassesOf, IsAutomatonOf};
+ghost use Rattle.aa_glob.specs.Automata.{AreClassesOf, IsAutomatonOf};
 ghost use Rattle.aa_glob_paths.specs.AllPaths.{TellAllPaths};
 ghost use Rattle.aa_glob_paths.specs.TooMany.{AreMoreTextsThan};
 
 use crate::of_sets::outcomes_in;
 use crate::outcome::Outcome;
-use aa_glob_automaton::{Automaton, what_reaches_a_state};
+use aa_glob::{Automaton, what_reaches_a_state};
 use std::alloc::{AllocError, Global};
 
 /// Which patterns of an automaton match some path together, where one of the class that is wanted (`WANTED`) is among them, and none of the class that is

@@ -4,17 +4,19 @@ ghost use Rattle.std.specs.Prelude.{◌≡◌, ◌+◌, ◌<◌, length, All, If
 ghost use Rattle.aa_glob_nfa.specs.OfTables.{AreSound, AreSorted, graph_of};
 ghost use Rattle.aa_glob_pairs.specs.Graphs.{IsLaid};
 ghost use Rattle.aa_glob_pairs.specs.Pairs.{AreClassed};
-ghost use Rattle.aa_glob_sets.specs.Found.{AreByLength, AreFound};
-ghost use Rattle.aa_glob_sets.specs.Reachable.{AreMoreThan};
+ghost use Rattle.aa_glob_paths.specs.Found.{AreByLength, AreFound};
+ghost use Rattle.aa_glob_paths.specs.Reachable.{AreMoreThan};
 ghost use Rattle.aa_glob_paths.specs.code.AllTexts.{AreOutcomesBefore, TellAllTexts, are_told, has_class};
 ghost use Rattle.aa_glob_paths.specs.code.Kept.{kept_outcomes};
 
+use crate::closing::reachable;
 use crate::outcome::Outcome;
+use crate::set_laws::what_sets_tell;
+use crate::sets::Sets;
+use crate::settled::{PASSED_OVER, settled_states};
+use crate::wanted::{WANTED, wanted_states};
 use aa_glob_nfa::Tables;
 use aa_glob_run::patterns_of;
-use aa_glob_sets::{
-    PASSED_OVER, Sets, WANTED, reachable, settled_states, wanted_states, what_sets_tell,
-};
 use indexmap::IndexMap;
 use std::alloc::{AllocError, Global};
 

@@ -5,8 +5,8 @@ use Rattle.std.proofs.lemmas.List.{get_or-append_right, get_or_append_left, get_
 use Rattle.std.proofs.lemmas.List.Elements.{All-nil, All-push}
 use Rattle.std.specs.declared.alloc.AllocError.{AllocError}
 use Rattle.aa_glob_nfa.specs.Graphs.{Graph, Reaches}
-use Rattle.aa_glob_front.specs.Fronts.{IsLive}
-use Rattle.aa_glob_front.specs.Runs.{IsWhole, LeadsTo}
+use Rattle.aa_glob_nfa.specs.Fronts.{IsLive}
+use Rattle.aa_glob_nfa.specs.Runs.{IsWhole, LeadsTo}
 use Rattle.aa_glob_run.specs.code.Memos.{IsMemo, IsRight, front_of, place_of, unknown_row, with_move}
 
 -- nothing is remembered yet

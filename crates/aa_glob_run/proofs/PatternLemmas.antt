@@ -8,8 +8,8 @@ use Rattle.std.proofs.lemmas.List.Quantifiers.{all_pairs_push}
 use Rattle.std.specs.Prelude.{All, AllPairs, Contains, slice_get, Result, Ok, Err, OnOk}
 use Rattle.std.specs.List.Sorted.{IsNonDecreasing}
 use Rattle.aa_glob_nfa.specs.Graphs.{Graph, EndsAt, IsFound, Reaches}
-use Rattle.aa_glob_front.specs.Runs.{IsWhole}
-use Rattle.aa_glob_front.proofs.RunLemmas.{Contains-slice_get}
+use Rattle.aa_glob_nfa.specs.Runs.{IsWhole}
+use Rattle.aa_glob_nfa.proofs.RunLemmas.{Contains-slice_get}
 use Rattle.aa_glob_run.specs.Ends.{IsEndIn}
 use Rattle.aa_glob_run.specs.code.Ends.{Gets, is_new}
 use Rattle.aa_glob_nfa.specs.OfTables.{graph_of}

@@ -5,10 +5,10 @@ use Rattle.std.proofs.lemmas.Nat.{mul-le}
 use Rattle.std.specs.Prelude.{Contains}
 use Rattle.aa_glob_nfa.specs.Graphs.{Graph}
 use Rattle.aa_glob_nfa.specs.Graphs.Reaches.{begins}
-use Rattle.aa_glob_front.specs.Steps.{counted, IsCounted}
-use Rattle.aa_glob_front.specs.Runs.{IsRunning, IsWhole}
-use Rattle.aa_glob_front.proofs.RunLemmas.{begun-whole, more_visits}
-use Rattle.aa_glob_front.proofs.StepLemmas.{counted-counted}
+use Rattle.aa_glob_nfa.specs.Steps.{counted, IsCounted}
+use Rattle.aa_glob_nfa.specs.Runs.{IsRunning, IsWhole}
+use Rattle.aa_glob_nfa.proofs.RunLemmas.{begun-whole, more_visits}
+use Rattle.aa_glob_nfa.proofs.StepLemmas.{counted-counted}
 
 -- before a text, where some state lives
 pub recalled_start : (g : Graph) (room old : ℕ) (live : List ℕ) → IsWhole g [] live → IsRunning g [] room 0 (record { states = live; room = room }) (record { states = []; room = room }) old old

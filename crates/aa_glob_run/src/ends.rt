@@ -1,8 +1,8 @@
 //! The patterns of which an end is reached behind a text.
 
 ghost use Rattle.std.specs.Prelude.{◌<◌, length, AllPairs, IfOk, OnOk};
-ghost use Rattle.aa_glob_front.specs.Steps.{IsCounted, most_visits};
-ghost use Rattle.aa_glob_front.specs.Visits.{CountsAllVisits, CountsFirstVisits};
+ghost use Rattle.aa_glob_nfa.specs.Steps.{IsCounted, most_visits};
+ghost use Rattle.aa_glob_nfa.specs.Visits.{CountsAllVisits, CountsFirstVisits};
 ghost use Rattle.aa_glob_nfa.specs.Graphs.{IsFound, Reaches};
 ghost use Rattle.aa_glob_nfa.specs.OfTables.{AreSound, AreSorted, graph_of};
 ghost use Rattle.aa_glob_run.specs.code.Memos.{Remembers};
@@ -10,8 +10,7 @@ ghost use Rattle.aa_glob_run.specs.code.Memos.{Remembers};
 use crate::memo::Memo;
 use crate::patterns::patterns_of;
 use crate::recall::known_far;
-use aa_glob_front::{Front, Steps, run, run_on};
-use aa_glob_nfa::Tables;
+use aa_glob_nfa::{Front, Steps, Tables, run, run_on};
 use std::alloc::{AllocError, Global};
 
 // The patterns of which an end is reached behind a text: by what is remembered as far as it goes, and by a run from there on.

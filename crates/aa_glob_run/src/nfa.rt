@@ -2,8 +2,8 @@
 
 ghost use Rattle.std.specs.Prelude.{◌≡◌, ◌<◌, ℕ, length, IfOk, OnOk};
 ghost use Rattle.std.specs.List.Sorted.{IsStrictlyIncreasing};
-ghost use Rattle.aa_glob_front.specs.Steps.{IsCounted, most_visits};
-ghost use Rattle.aa_glob_front.specs.Visits.{CountsAllVisits, CountsFirstVisits};
+ghost use Rattle.aa_glob_nfa.specs.Steps.{IsCounted, most_visits};
+ghost use Rattle.aa_glob_nfa.specs.Visits.{CountsAllVisits, CountsFirstVisits};
 ghost use Rattle.aa_glob_nfa.specs.Graphs.{EndsAt, IsFound, Reaches, SameGraph};
 ghost use Rattle.aa_glob_nfa.specs.OfTables.{AreSorted, AreSound, graph_of};
 ghost use Rattle.aa_glob_pairs.specs.Clashes.{IsLeast};
@@ -13,8 +13,7 @@ use crate::ends::ends;
 use crate::memo::Memo;
 use crate::patterns::patterns_of;
 use crate::recall::recall;
-use aa_glob_front::Steps;
-use aa_glob_nfa::Tables;
+use aa_glob_nfa::{Steps, Tables};
 use aa_glob_pairs::first_clash;
 use std::alloc::{AllocError, Global};
 use std::marker::Model;

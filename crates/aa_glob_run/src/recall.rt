@@ -3,13 +3,12 @@
 ghost use Rattle.std.specs.Prelude.{◌≡◌, ◌<◌, ◌≤◌, ℕ, length, true, IfOk, IfSome, OnOk};
 ghost use Rattle.aa_glob_nfa.specs.Graphs.{Graph};
 ghost use Rattle.aa_glob_nfa.specs.OfTables.{AreSound, AreSorted, graph_of};
-ghost use Rattle.aa_glob_front.specs.Fronts.{IsLive};
-ghost use Rattle.aa_glob_front.specs.Runs.{LeadsTo};
+ghost use Rattle.aa_glob_nfa.specs.Fronts.{IsLive};
+ghost use Rattle.aa_glob_nfa.specs.Runs.{LeadsTo};
 ghost use Rattle.aa_glob_run.specs.code.Memos.{HasRows, IsRecalling, Remembers, front_at, fronts_in, most_fronts, most_new};
 
 use crate::memo::Memo;
-use aa_glob_front::{Steps, first, follow};
-use aa_glob_nfa::Tables;
+use aa_glob_nfa::{Steps, Tables, first, follow};
 use std::alloc::{AllocError, Global};
 
 // How many states a list has at most that is remembered behind a byte, so that all lists take no more than some 2 MB.

@@ -4,7 +4,7 @@ use Rattle.std.specs.Prelude.{◌↔◌, is_none}
 use Rattle.std.specs.List.{All, list_all}
 use Rattle.std.proofs.lemmas.Bool.{and_parts}
 use Rattle.std.proofs.lemmas.List.Elements.{All-cons, All-head, All-nil, All-tail}
-use Rattle.aa_text_splicing.specs.Splicing.{Placed}
+use Rattle.aa_text_tokens.specs.Splicing.{Placed}
 use Rattle.aa_text_variables.specs.Variables.{Variable}
 use Rattle.aa_profile_data.specs.ConflictLaws.{HasReadPattern, NoneConflict}
 use Rattle.aa_profile_data.specs.Conflicts.{agree, child_agrees, first_conflict, profile_agrees}
@@ -18,12 +18,12 @@ use Rattle.aa_profile_rules.specs.Rules.{Rule as WrittenRule}
 use Rattle.aa_profile.specs.Conflicts.{conflict_in_members, conflict_in_profiles, conflict_in_rules, refusal_of_conflicts}
 use Rattle.aa_profile.specs.FileReading.{refusal_of_patterns}
 use Rattle.aa_profile.specs.Laws.{ChildHasNoConflict, HasNoConflict}
-use Rattle.aa_profile_patterns.specs.PatternTokens.{of_profiles}
-use Rattle.aa_profile_patterns.specs.Patterns.{first_bad, over_limit}
-use Rattle.aa_profile_making.specs.Profiles.{children_of, profile_of, rules_of, rules_of_members, rules_of_rule}
-use Rattle.aa_profile_errors.specs.ProfileError.{placed}
-use Rattle.aa_profile_errors.specs.declared.profile_error.ProfileError.{ProfileError}
-use Rattle.aa_profile_errors.specs.declared.profile_error.ProfileRefusal.TheVariants.{ExecConflict}
+use Rattle.aa_profile_grammar.specs.PatternTokens.{of_profiles}
+use Rattle.aa_profile_grammar.specs.Patterns.{first_bad, over_limit}
+use Rattle.aa_profile.specs.Profiles.{children_of, profile_of, rules_of, rules_of_members, rules_of_rule}
+use Rattle.aa_profile_parsing.specs.ProfileError.{placed}
+use Rattle.aa_profile_parsing.specs.declared.profile_error.ProfileError.{ProfileError}
+use Rattle.aa_profile_parsing.specs.declared.profile_error.ProfileRefusal.TheVariants.{ExecConflict}
 use Rattle.aa_profile.proofs.ConflictLemmas.{first-behind, first-front, further, profiles-free, rule-none}
 use Rattle.aa_profile.proofs.ReadLemmas.{ChildIsRead, children-read, members-fine, members-read}
 

@@ -11,18 +11,18 @@ use Rattle.std.proofs.lemmas.List.Concat.{flat_map-append}
 use Rattle.std.proofs.lemmas.List.Folds.{find_at}
 use Rattle.std.proofs.lemmas.Option.{slice_get_cases, slice_get_past}
 use Rattle.aa_text_variables.specs.Expansions.{expansion_refusal, is_cyclic, leads_to_cycle, leads_to_undefined, words_of}
-use Rattle.aa_text_splicing.specs.Splicing.{Placed}
+use Rattle.aa_text_tokens.specs.Splicing.{Placed}
 use Rattle.aa_text_variables.specs.Variables.{Variable, after_append, after_define, is_defined, named, names_undefined, same_texts, with_added}
 use Rattle.aa_text_files.specs.declared.text_error.Place.{Place}
 use Rattle.aa_text_files.specs.declared.text_error.TextRefusal.{TextRefusal}
 use Rattle.aa_text_files.specs.declared.text_error.TextRefusal.TheVariants.{Cycle, Undefined}
 use Rattle.aa_profile.specs.Assignments.{all_assigned, assigned, cycle, first_of, first_undefined, naming, undefined_name}
 use Rattle.aa_profile.specs.code.FileReadingProgress.{first_undefined_value}
-use Rattle.aa_profile_patterns.specs.Patterns.{have_expansions}
+use Rattle.aa_profile_grammar.specs.Patterns.{have_expansions}
 use Rattle.aa_profile_grammar.specs.Preamble.{Assignment}
 use Rattle.aa_profile_parsing.specs.Tokens.{place_of, text_of}
-use Rattle.aa_profile_errors.specs.ProfileError.{placed}
-use Rattle.aa_profile_errors.specs.declared.profile_error.ProfileRefusal.TheVariants.{Text}
+use Rattle.aa_profile_parsing.specs.ProfileError.{placed}
+use Rattle.aa_profile_parsing.specs.declared.profile_error.ProfileRefusal.TheVariants.{Text}
 
 -- what is found in some tokens is found in them and others
 pub find-front : {X : Type 0} (p : X → Bool) (xs ys : List X) (x : X) → find p xs ≡ Some x → find p (xs ++ ys) ≡ Some x

@@ -4,15 +4,15 @@ use Rattle.std.specs.Prelude.{IfOk, if◌then◌else◌, codes}
 use Rattle.std.specs.List.{All}
 use Rattle.std.proofs.lemmas.List.Elements.{All-append, All-cons, All-head, All-nil, All-tail}
 use Rattle.std.proofs.lemmas.Result.{IfOk-at_ok}
-use Rattle.aa_text_splicing.specs.Splicing.{Placed}
+use Rattle.aa_text_tokens.specs.Splicing.{Placed}
 use Rattle.aa_text_variables.specs.Variables.{Variable}
 use Rattle.aa_profile_parsing.specs.Parts.{Part, followed, refused}
 use Rattle.aa_profile_parsing.specs.Tokens.{is_close_brace, is_word_of}
 use Rattle.aa_profile_parsing.specs.declared.fault.GrammarRefusal.TheVariants.{NestedChild}
 use Rattle.aa_profile_parsing.specs.declared.language.Language.{Language}
-use Rattle.aa_profile_flags.specs.Flags.{flags}
-use Rattle.aa_profile_flags.specs.IdleFlags.{flag_tokens}
-use Rattle.aa_profile_flags.specs.declared.flags.Flags.{Flags}
+use Rattle.aa_profile_parsing.specs.Flags.{flags}
+use Rattle.aa_profile_parsing.specs.IdleFlags.{flag_tokens}
+use Rattle.aa_profile_parsing.specs.declared.flags.Flags.{Flags}
 use Rattle.aa_profile_rules.specs.Rules.{Rule as WrittenRule, rule}
 use Rattle.aa_profile_grammar.specs.Blocks.{OfChild, OfRule, Child as WrittenChild, Member, Profile as WrittenProfile, child, child_block, child_rule, member, next_member, next_profile, next_rule, profile_block}
 use Rattle.aa_profile_grammar.specs.Files.{File, file}
@@ -25,7 +25,7 @@ use Rattle.aa_profile_data.specs.declared.profile.Child.{Child}
 use Rattle.aa_profile_data.specs.declared.profile.Mode.{Mode}
 use Rattle.aa_profile_data.specs.declared.profile.Profile.{Profile}
 use Rattle.aa_profile_data.specs.declared.profile.Rule.{Rule}
-use Rattle.aa_profile_making.specs.Profiles.{child_of, children_of, mode_of, profile_of, rules_of, rules_of_members, rules_of_rule}
+use Rattle.aa_profile.specs.Profiles.{child_of, children_of, mode_of, profile_of, rules_of, rules_of_members, rules_of_rule}
 use Rattle.aa_profile.proofs.GrammarLemmas.{first-told, followed-ok, no-skipped, profiles-keep, row-keeps}
 use Rattle.aa_profile.proofs.NameLemmas.{child-parts, profile-parts}
 

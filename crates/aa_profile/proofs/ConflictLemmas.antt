@@ -8,7 +8,7 @@ use Rattle.std.proofs.lemmas.Bool.Decides.{nat_tests}
 use Rattle.std.proofs.lemmas.List.{length-map}
 use Rattle.std.proofs.lemmas.List.Folds.{list_all-append}
 use Rattle.aa_text_files.specs.declared.text_error.Place.{Place}
-use Rattle.aa_text_splicing.specs.Splicing.{Placed}
+use Rattle.aa_text_tokens.specs.Splicing.{Placed}
 use Rattle.aa_text_variables.specs.Expansions.{expansion_refusal, expansions}
 use Rattle.aa_text_variables.specs.Variables.{Variable}
 use Rattle.aa_profile_data.specs.Conflicts.{agree, child_agrees, conflict, first_conflict, profile_agrees}
@@ -19,15 +19,15 @@ use Rattle.aa_profile_parsing.specs.Tokens.{place_of, text_of}
 use Rattle.aa_profile_rules.specs.Rules.{All, Kept, OnCapabilities, OnFile, OnNetwork, Rule as WrittenRule}
 use Rattle.aa_profile_rules.specs.SeenRules.{seen_rule}
 use Rattle.aa_profile_rules.specs.declared.rules.Rule.{Rule as CodeRule}
-use Rattle.aa_profile_making.proofs.ProfileLemmas.{parts_of}
-use Rattle.aa_profile_patterns.specs.PatternTokens.{of_rule, of_rules}
+use Rattle.aa_profile.proofs.ProfileLemmas.{parts_of}
+use Rattle.aa_profile_grammar.specs.PatternTokens.{of_rule, of_rules}
 use Rattle.aa_profile.specs.Conflicts.{conflict_in_members, conflict_in_profiles, conflict_in_rule, conflict_in_rules, pattern_of}
-use Rattle.aa_profile_patterns.specs.Limits.{most_rules}
-use Rattle.aa_profile_patterns.specs.Patterns.{are_counted, have_expansions, is_counted, over_limit, too_many}
-use Rattle.aa_profile_patterns.specs.Places.{rule_count}
-use Rattle.aa_profile_making.specs.Profiles.{cap_rule, children_of, net_rule, other_rule, profile_of, rules_of, rules_of_members, rules_of_rule}
-use Rattle.aa_profile_errors.specs.ProfileError.{placed}
-use Rattle.aa_profile_errors.specs.declared.profile_error.ProfileRefusal.TheVariants.{TooManyRules}
+use Rattle.aa_profile_grammar.specs.Limits.{most_rules}
+use Rattle.aa_profile_grammar.specs.Patterns.{are_counted, have_expansions, is_counted, over_limit, too_many}
+use Rattle.aa_profile_grammar.specs.Places.{rule_count}
+use Rattle.aa_profile.specs.Profiles.{cap_rule, children_of, net_rule, other_rule, profile_of, rules_of, rules_of_members, rules_of_rule}
+use Rattle.aa_profile_parsing.specs.ProfileError.{placed}
+use Rattle.aa_profile_parsing.specs.declared.profile_error.ProfileRefusal.TheVariants.{TooManyRules}
 use Rattle.aa_profile.specs.code.ConflictProgress.{Passes, ReachesMembers, ReachesRules}
 
 -- a written rule makes as many rules as are counted

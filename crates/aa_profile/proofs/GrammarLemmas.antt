@@ -4,7 +4,7 @@ use Rattle.std.specs.Prelude.{◌==◌, if◌then◌else◌, codes}
 use Rattle.std.specs.List.{list_any}
 use Rattle.std.proofs.lemmas.Bool.{or_parts}
 use Rattle.aa_bytes.specs.Texts.{is_empty}
-use Rattle.aa_text_splicing.specs.Splicing.{Placed}
+use Rattle.aa_text_tokens.specs.Splicing.{Placed}
 use Rattle.aa_profile_grammar.specs.Blocks.{Profile as WrittenProfile, next_profile, profile}
 use Rattle.aa_profile_grammar.specs.Files.{File, file}
 use Rattle.aa_profile_grammar.specs.Preamble.{Assignment, assignment, behind_version, is_value, next_assignment, preamble, value_count}

@@ -1,4 +1,5 @@
 pub mod AgreeLemmas
+pub mod AllLemmas
 pub mod AssignmentLemmas
 pub mod BlockLemmas
 pub mod ConflictLemmas
@@ -7,6 +8,7 @@ pub mod NameLemmas
 pub mod NarrowLemmas
 pub mod NumberLemmas
 pub mod PlaceLemmas
+pub mod ProfileLemmas
 pub mod ReadLemmas
 pub mod ReadPatternLemmas
 pub mod ReadingLemmas

@@ -8,16 +8,16 @@ use Rattle.std.proofs.lemmas.Grind.{flat_map-append}
 use Rattle.std.proofs.lemmas.List.{append-nil, map-append}
 use Rattle.std.proofs.lemmas.List.Folds.{list_all-append}
 use Rattle.std.proofs.lemmas.Slice.Eq.{bytes_eq-Decides}
-use Rattle.aa_text_splicing.specs.Splicing.{Placed}
-use Rattle.aa_profile_access.specs.Names.{is_name, is_top_name}
+use Rattle.aa_text_tokens.specs.Splicing.{Placed}
+use Rattle.aa_profile_data.specs.Names.{is_name, is_top_name}
 use Rattle.aa_profile_parsing.specs.Parts.{Part, followed, refused}
 use Rattle.aa_profile_parsing.specs.Tokens.{is_close_brace, is_word_of}
 use Rattle.aa_profile_parsing.specs.declared.language.Language.{Language}
 use Rattle.aa_profile_rules.specs.Rules.{rule}
 use Rattle.aa_profile_grammar.specs.Blocks.{OfChild, OfRule, Child as WrittenChild, Member, Profile as WrittenProfile, child, child_behind, child_block, closed, is_child_of_name, is_hat, is_of_name, member, next_member, next_profile, profile, profile_behind, profile_block, refusal_of_name}
 use Rattle.aa_profile_grammar.specs.Files.{File, file}
-use Rattle.aa_profile_flags.specs.Flags.{flags}
-use Rattle.aa_profile_flags.specs.IdleFlags.{flag_tokens}
+use Rattle.aa_profile_parsing.specs.Flags.{flags}
+use Rattle.aa_profile_parsing.specs.IdleFlags.{flag_tokens}
 use Rattle.aa_profile_grammar.specs.Heads.{Head, Named, attachment, begins_child, child_name, head, top_name}
 use Rattle.aa_profile_grammar.specs.Preamble.{behind_version}
 use Rattle.aa_profile_grammar.specs.Sequences.{skipped}
@@ -27,7 +27,7 @@ use Rattle.aa_profile_data.specs.Profile.{are_distinct, are_distinct_children, i
 use Rattle.aa_profile_data.specs.declared.profile.Child.{Child}
 use Rattle.aa_profile_data.specs.declared.profile.Profile.{Profile}
 use Rattle.aa_profile.specs.ProfileNames.{has_distinct_children, is_child_named_well, is_named_well}
-use Rattle.aa_profile_making.specs.Profiles.{child_of, children_of, children_of_member, profile_of}
+use Rattle.aa_profile.specs.Profiles.{child_of, children_of, children_of_member, profile_of}
 use Rattle.aa_text_variables.specs.Variables.{Variable}
 use Rattle.aa_profile.proofs.GrammarLemmas.{any-push, first-told, followed-ok, no-skipped, profiles-keep, row-keeps}
 

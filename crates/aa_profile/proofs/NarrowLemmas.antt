@@ -5,15 +5,15 @@ use Rattle.std.specs.List.{All}
 use Rattle.std.proofs.lemmas.List.Elements.{All-cons, All-nil}
 use Rattle.aa_glob_syntax.specs.Exactness.{is_exact}
 use Rattle.aa_glob_syntax.specs.Reading.{items_of}
-use Rattle.aa_text_splicing.specs.Splicing.{Placed}
+use Rattle.aa_text_tokens.specs.Splicing.{Placed}
 use Rattle.aa_text_variables.specs.Variables.{Variable}
-use Rattle.aa_profile_access.specs.declared.exec_word.ExecWord.{ExecWord}
+use Rattle.aa_profile_data.specs.declared.exec_word.ExecWord.{ExecWord}
 use Rattle.aa_profile_parsing.specs.declared.language.Language.TheVariants.{Three}
-use Rattle.aa_profile_flags.specs.Flags.{flags}
-use Rattle.aa_profile_flags.specs.NarrowFlags.{HasNarrowMode}
-use Rattle.aa_profile_flags.specs.declared.flags.Flags.{Flags}
-use Rattle.aa_profile_flags.specs.declared.flags.ModeFlag.{ModeFlag}
-use Rattle.aa_profile_flags.specs.declared.flags.ModeFlag.TheVariants as flag
+use Rattle.aa_profile_parsing.specs.Flags.{flags}
+use Rattle.aa_profile_parsing.specs.NarrowFlags.{HasNarrowMode}
+use Rattle.aa_profile_parsing.specs.declared.flags.Flags.{Flags}
+use Rattle.aa_profile_parsing.specs.declared.flags.ModeFlag.{ModeFlag}
+use Rattle.aa_profile_parsing.specs.declared.flags.ModeFlag.TheVariants as flag
 use Rattle.aa_profile_rules.specs.NarrowRules.{IsNarrow as IsNarrowWritten, NamesNoStack as NamesNone}
 use Rattle.aa_profile_rules.specs.Rules.{All as LetsAll, Kept, OnCapabilities, OnFile, OnNetwork, Rule as WrittenRule, rule}
 use Rattle.aa_profile_rules.specs.declared.access.Access.{Access}
@@ -23,8 +23,8 @@ use Rattle.aa_profile_data.specs.declared.profile.Mode.{Mode}
 use Rattle.aa_profile_data.specs.declared.profile.Mode.TheVariants.{Enforce, Unconfined}
 use Rattle.aa_profile_data.specs.declared.profile.Rank.TheVariants.{Loose, Plain}
 use Rattle.aa_profile_data.specs.declared.profile.Transition.{Transition}
-use Rattle.aa_profile_patterns.specs.Patterns.{patterns_at}
-use Rattle.aa_profile_making.specs.Profiles.{file_rule, mode_of, mode_of_flag, profile_of, rank_of, rules_of_rule, text_of_target, transition_of}
+use Rattle.aa_profile_grammar.specs.Patterns.{patterns_at}
+use Rattle.aa_profile.specs.Profiles.{file_rule, mode_of, mode_of_flag, profile_of, rank_of, rules_of_rule, text_of_target, transition_of}
 use Rattle.aa_profile.specs.NarrowProfiles.{IsNarrow, IsNarrowRule, NamesNoStack}
 use Rattle.aa_profile.proofs.BlockLemmas.{file-has}
 

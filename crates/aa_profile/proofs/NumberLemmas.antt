@@ -4,9 +4,9 @@ use Rattle.std.specs.Prelude.{IfOk}
 use Rattle.std.specs.List.{list_all}
 use Rattle.std.proofs.lemmas.List.Elements.{All-weaker}
 use Rattle.std.proofs.lemmas.List.Sums.{AllPass-from_list_all, list_all-from_AllPass}
-use Rattle.aa_text_splicing.specs.Splicing.{Placed}
+use Rattle.aa_text_tokens.specs.Splicing.{Placed}
 use Rattle.aa_text_variables.specs.Variables.{Variable}
-use Rattle.aa_profile_flags.specs.Flags.{flags}
+use Rattle.aa_profile_parsing.specs.Flags.{flags}
 use Rattle.aa_profile_parsing.specs.declared.language.Language.{Language}
 use Rattle.aa_profile_rules.specs.RuleNumbers.{has_known_numbers as is_known}
 use Rattle.aa_profile_rules.specs.Rules.{All as LetsAll, Kept, OnCapabilities, OnFile, OnNetwork, Rule as WrittenRule, rule}
@@ -15,8 +15,8 @@ use Rattle.aa_profile_data.specs.Numbers.{child_has_known_numbers, has_known_num
 use Rattle.aa_profile_data.specs.declared.profile.Child.{Child}
 use Rattle.aa_profile_data.specs.declared.profile.Profile.{Profile}
 use Rattle.aa_profile_data.specs.declared.profile.Rule.{Rule}
-use Rattle.aa_profile_patterns.specs.Patterns.{patterns_at}
-use Rattle.aa_profile_making.specs.Profiles.{file_rule, profile_of, rules_of_rule, token_rank}
+use Rattle.aa_profile_grammar.specs.Patterns.{patterns_at}
+use Rattle.aa_profile.specs.Profiles.{file_rule, profile_of, rules_of_rule, token_rank}
 use Rattle.aa_profile.proofs.BlockLemmas.{MadeChildHas, MadeProfileHas, file-has}
 
 -- what is made of rules that have no number outside of the tables has none either

@@ -5,25 +5,25 @@ use Rattle.std.proofs.lemmas.List.Elements.{Contains-append_right}
 use Rattle.std.specs.List.{Contains}
 use Rattle.aa_text_files.specs.Files.{File as HandedIn}
 use Rattle.aa_text_files.specs.declared.text_error.Place.{Place}
-use Rattle.aa_text_splicing.specs.Splicing.{Fault, Placed, spliced}
+use Rattle.aa_text_tokens.specs.Splicing.{Fault, Placed, spliced}
 use Rattle.aa_text_variables.specs.Variables.{Variable}
 use Rattle.aa_profile_data.specs.declared.profile.Profile.{Profile}
 use Rattle.aa_profile_data.specs.declared.profile.Rule.{Rule}
-use Rattle.aa_profile_errors.specs.ProfileError.{error_of_grammar, refusal_of_text}
-use Rattle.aa_profile_errors.specs.declared.profile_error.ProfileError.{ProfileError}
+use Rattle.aa_profile_parsing.specs.ProfileError.{error_of_grammar, refusal_of_text}
+use Rattle.aa_profile_parsing.specs.declared.profile_error.ProfileError.{ProfileError}
 use Rattle.aa_profile_grammar.specs.Blocks.{OfChild, OfRule, Member, Profile as WrittenProfile}
 use Rattle.aa_profile_grammar.specs.Files.{File, file}
 use Rattle.aa_profile_parsing.specs.declared.grammar_error.GrammarError.{GrammarError}
 use Rattle.aa_profile_parsing.specs.declared.language.Language.{Language}
-use Rattle.aa_profile_patterns.specs.PatternTokens.{of_profiles}
-use Rattle.aa_profile_patterns.specs.Places.{place_of_rule, places_in_members, places_of_members, places_of_profile, places_of_rule, places_of_rules, rule_count}
-use Rattle.aa_profile_patterns.specs.declared.places.ProfilePlaces.{ProfilePlaces}
+use Rattle.aa_profile_grammar.specs.PatternTokens.{of_profiles}
+use Rattle.aa_profile_grammar.specs.Places.{place_of_rule, places_in_members, places_of_members, places_of_profile, places_of_rule, places_of_rules, rule_count}
+use Rattle.aa_profile_grammar.specs.declared.places.ProfilePlaces.{ProfilePlaces}
 use Rattle.aa_profile_rules.specs.Rules.{Rule as WrittenRule}
 use Rattle.aa_profile.specs.Assignments.{variables_of}
 use Rattle.aa_profile.specs.FilePlaces.{file_places_in, places_in, places_of}
 use Rattle.aa_profile.specs.FileReading.{file_profiles_in, profiles_in, profiles_of, profiles_with, refusal_of_rules}
 use Rattle.aa_profile.specs.PlaceLaws.{AreChildrenMadeAt, AreFileMadeAt, AreMadeAt, AreProfilesMadeAt, children_in, rules_in}
-use Rattle.aa_profile_making.specs.Profiles.{children_of, profile_of, rules_of, rules_of_members, rules_of_rule}
+use Rattle.aa_profile.specs.Profiles.{children_of, profile_of, rules_of, rules_of_members, rules_of_rule}
 use Rattle.aa_profile.proofs.ConflictLemmas.{rules-counted}
 
 module _ (language : Language) (variables : List Variable) (all : List WrittenRule) where

@@ -13,20 +13,20 @@ use Rattle.aa_profile_grammar.specs.Blocks.{OfChild, OfRule, Member, Profile as 
 use Rattle.aa_profile_parsing.specs.declared.language.Language.{Language}
 use Rattle.aa_profile_parsing.specs.Tokens.{place_of, text_of}
 use Rattle.aa_profile_rules.specs.Rules.{All as LetsAll, Kept, OnCapabilities, OnFile, OnNetwork, Rule as WrittenRule}
-use Rattle.aa_text_splicing.specs.Splicing.{Placed}
+use Rattle.aa_text_tokens.specs.Splicing.{Placed}
 use Rattle.aa_text_variables.specs.Expansions.{expansions}
 use Rattle.aa_text_variables.specs.Variables.{Variable}
-use Rattle.aa_profile_patterns.specs.PatternTokens.{of_child, of_head, of_members, of_profile, of_profiles, of_rule, of_rules}
-use Rattle.aa_profile_patterns.specs.Patterns.{collapsed, first_bad, patterns_at, refusal_of_expansion, refusal_of_expansions, refusal_of_token}
+use Rattle.aa_profile_grammar.specs.PatternTokens.{of_child, of_head, of_members, of_profile, of_profiles, of_rule, of_rules}
+use Rattle.aa_profile_grammar.specs.Patterns.{collapsed, first_bad, patterns_at, refusal_of_expansion, refusal_of_expansions, refusal_of_token}
 use Rattle.aa_profile_rules.specs.Capabilities.{all_capabilities}
 use Rattle.aa_profile_rules.specs.Networks.{all_sockets}
-use Rattle.aa_profile_making.specs.Profiles.{cap_rule, children_of, exec_of_all, file_rule, kept_of_all, letters_of_all, net_rule, rules_of, rules_of_members, rules_of_rule, token_rank}
-use Rattle.aa_profile_errors.specs.ProfileError.{placed, refusal_of_pattern}
-use Rattle.aa_profile_errors.specs.declared.profile_error.ProfileError.{ProfileError}
-use Rattle.aa_profile_errors.specs.declared.profile_error.ProfileRefusal.{ProfileRefusal}
+use Rattle.aa_profile.specs.Profiles.{cap_rule, children_of, exec_of_all, file_rule, kept_of_all, letters_of_all, net_rule, rules_of, rules_of_members, rules_of_rule, token_rank}
+use Rattle.aa_profile_parsing.specs.ProfileError.{placed, refusal_of_pattern}
+use Rattle.aa_profile_parsing.specs.declared.profile_error.ProfileError.{ProfileError}
+use Rattle.aa_profile_parsing.specs.declared.profile_error.ProfileRefusal.{ProfileRefusal}
 use Rattle.aa_glob_syntax.specs.declared.pattern_error.PatternError.TheVariants.{TooLong}
-use Rattle.aa_profile_errors.specs.declared.profile_error.ProfileRefusal.TheVariants.{Pattern as OfPattern}
-use Rattle.aa_profile_making.proofs.ProfileLemmas.{first_bad_behind, first_bad_front}
+use Rattle.aa_profile_parsing.specs.declared.profile_error.ProfileRefusal.TheVariants.{Pattern as OfPattern}
+use Rattle.aa_profile.proofs.ProfileLemmas.{first_bad_behind, first_bad_front}
 
 -- an expansion that isn't refused reads as a pattern
 expansion-read : (text : List ℕ) → refusal_of_expansion text ≡ None → reading (collapsed text) ≡ Ok (items_of (collapsed text))

@@ -2,16 +2,16 @@
 use Rattle.std.proofs.Common.{◌≡◌, List, [], ◌∷◌, map, Option, None, Some, Ok, refl}
 use Rattle.std.specs.List.{All}
 use Rattle.std.proofs.lemmas.List.Elements.{All-cons, All-nil}
-use Rattle.aa_profile_errors.specs.declared.profile_error.ProfileError.{ProfileError}
+use Rattle.aa_profile_parsing.specs.declared.profile_error.ProfileError.{ProfileError}
 use Rattle.aa_profile_grammar.specs.Blocks.{Profile as WrittenProfile}
 use Rattle.aa_profile_grammar.specs.Files.{File, file}
 use Rattle.aa_profile_parsing.specs.declared.language.Language.{Language}
-use Rattle.aa_profile_patterns.specs.PatternTokens.{of_profiles}
-use Rattle.aa_profile_patterns.specs.Patterns.{first_bad, over_limit}
-use Rattle.aa_text_splicing.specs.Splicing.{Placed}
+use Rattle.aa_profile_grammar.specs.PatternTokens.{of_profiles}
+use Rattle.aa_profile_grammar.specs.Patterns.{first_bad, over_limit}
+use Rattle.aa_text_tokens.specs.Splicing.{Placed}
 use Rattle.aa_text_variables.specs.Variables.{Variable}
 use Rattle.aa_profile.specs.FileReading.{refusal_of_patterns, refusal_of_rules}
-use Rattle.aa_profile_making.specs.Profiles.{profile_of}
+use Rattle.aa_profile.specs.Profiles.{profile_of}
 use Rattle.aa_profile.specs.ReadPatterns.{HasReadPatterns}
 use Rattle.aa_profile.proofs.ReadLemmas.{children-read, members-fine, members-read}
 

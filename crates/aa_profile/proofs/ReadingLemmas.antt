@@ -13,11 +13,11 @@ use Rattle.aa_profile.specs.declared.file_profiles.FileProfiles.{FileProfiles}
 use Rattle.aa_profile.specs.Conflicts.{conflict_in_profiles, refusal_of_conflicts}
 use Rattle.aa_profile.specs.FileReading.{file_profiles_in, profiles_in, profiles_of, profiles_with, refusal_of_blocks, refusal_of_patterns, refusal_of_rules}
 use Rattle.aa_profile.specs.States.{refusal_of_states}
-use Rattle.aa_profile_patterns.specs.PatternTokens.{of_profiles}
-use Rattle.aa_profile_making.specs.Profiles.{profile_of}
-use Rattle.aa_profile_errors.specs.declared.profile_error.ProfileError.{ProfileError}
-use Rattle.aa_profile_errors.specs.ProfileError.{error_of_grammar, refusal_of_text}
-use Rattle.aa_text_splicing.specs.Splicing.{Fault, Placed, spliced}
+use Rattle.aa_profile_grammar.specs.PatternTokens.{of_profiles}
+use Rattle.aa_profile.specs.Profiles.{profile_of}
+use Rattle.aa_profile_parsing.specs.declared.profile_error.ProfileError.{ProfileError}
+use Rattle.aa_profile_parsing.specs.ProfileError.{error_of_grammar, refusal_of_text}
+use Rattle.aa_text_tokens.specs.Splicing.{Fault, Placed, spliced}
 use Rattle.aa_text_variables.specs.Variables.{Variable}
 use Rattle.aa_profile.proofs.ConflictLemmas.{profiles-free}
 

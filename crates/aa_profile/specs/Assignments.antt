@@ -5,15 +5,15 @@ use Rattle.std.specs.Option.{option_map}
 use Rattle.std.specs.Str.{bytes_eq}
 use Rattle.aa_bytes.specs.Texts.{is_empty}
 use Rattle.aa_text_variables.specs.Expansions.{is_cyclic}
-use Rattle.aa_text_splicing.specs.Splicing.{Placed}
+use Rattle.aa_text_tokens.specs.Splicing.{Placed}
 use Rattle.aa_text_variables.specs.Variables.{Variable, after_append, after_define, names_undefined}
 use Rattle.aa_text_files.specs.declared.text_error.TextRefusal.{TextRefusal}
 use Rattle.aa_text_files.specs.declared.text_error.TextRefusal.TheVariants.{Cycle, Undefined}
 use Rattle.aa_profile_grammar.specs.Preamble.{Assignment}
 use Rattle.aa_profile_parsing.specs.Tokens.{place_of, text_of}
-use Rattle.aa_profile_errors.specs.ProfileError.{refusal_of_text, placed}
-use Rattle.aa_profile_errors.specs.declared.profile_error.ProfileError.{ProfileError}
-use Rattle.aa_profile_errors.specs.declared.profile_error.ProfileRefusal.TheVariants.{Text}
+use Rattle.aa_profile_parsing.specs.ProfileError.{refusal_of_text, placed}
+use Rattle.aa_profile_parsing.specs.declared.profile_error.ProfileError.{ProfileError}
+use Rattle.aa_profile_parsing.specs.declared.profile_error.ProfileRefusal.TheVariants.{Text}
 
 -- the variables after an assignment
 abbrev pub assigned : List Variable → Assignment → Result (List Variable) TextRefusal

@@ -2,7 +2,7 @@
 -- child or hat (docs/policy.md, "Rules that conflict").
 use Rattle.std.specs.Option.{option_map}
 use Rattle.std.specs.Prelude.{if◌then◌else◌, is_some, List, [], ◌∷◌, ◌++◌, Option, None, Some}
-use Rattle.aa_text_splicing.specs.Splicing.{Placed}
+use Rattle.aa_text_tokens.specs.Splicing.{Placed}
 use Rattle.aa_text_variables.specs.Variables.{Variable}
 use Rattle.aa_profile_data.specs.Conflicts.{first_conflict}
 use Rattle.aa_profile_data.specs.declared.profile.Rule.{Rule}
@@ -10,10 +10,10 @@ use Rattle.aa_profile_grammar.specs.Blocks.{OfChild, OfRule, Member, Profile}
 use Rattle.aa_profile_parsing.specs.declared.language.Language.{Language}
 use Rattle.aa_profile_parsing.specs.Tokens.{place_of}
 use Rattle.aa_profile_rules.specs.Rules.{All, Kept, OnCapabilities, OnFile, OnNetwork, Rule as WrittenRule, all_files}
-use Rattle.aa_profile_making.specs.Profiles.{rules_of_rule}
-use Rattle.aa_profile_errors.specs.ProfileError.{placed}
-use Rattle.aa_profile_errors.specs.declared.profile_error.ProfileError.{ProfileError}
-use Rattle.aa_profile_errors.specs.declared.profile_error.ProfileRefusal.TheVariants.{ExecConflict}
+use Rattle.aa_profile.specs.Profiles.{rules_of_rule}
+use Rattle.aa_profile_parsing.specs.ProfileError.{placed}
+use Rattle.aa_profile_parsing.specs.declared.profile_error.ProfileError.{ProfileError}
+use Rattle.aa_profile_parsing.specs.declared.profile_error.ProfileRefusal.TheVariants.{ExecConflict}
 
 -- the pattern of a written rule, where it has one
 abbrev pub pattern_of : WrittenRule → Option Placed

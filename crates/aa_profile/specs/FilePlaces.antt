@@ -1,13 +1,13 @@
 -- Where the profiles of a file have what they have.
 use Rattle.std.specs.Prelude.{ℕ, List, map, Option, None, Some, Ok, Err}
 use Rattle.aa_text_files.specs.Files.{File as HandedIn}
-use Rattle.aa_text_splicing.specs.Splicing.{Placed, spliced}
+use Rattle.aa_text_tokens.specs.Splicing.{Placed, spliced}
 use Rattle.aa_profile_grammar.specs.Files.{File, file}
 use Rattle.aa_profile_parsing.specs.declared.language.Language.TheVariants.{Three}
 use Rattle.aa_profile_parsing.specs.declared.language.Language.{Language}
-use Rattle.aa_profile_patterns.specs.PatternTokens.{of_profiles}
-use Rattle.aa_profile_patterns.specs.Places.{places_of_profile}
-use Rattle.aa_profile_patterns.specs.declared.places.ProfilePlaces.{ProfilePlaces}
+use Rattle.aa_profile_grammar.specs.PatternTokens.{of_profiles}
+use Rattle.aa_profile_grammar.specs.Places.{places_of_profile}
+use Rattle.aa_profile_grammar.specs.declared.places.ProfilePlaces.{ProfilePlaces}
 use Rattle.aa_profile.specs.Assignments.{variables_of}
 
 -- where a file's profiles do, if its variables can be worked out

@@ -7,17 +7,17 @@ use Rattle.aa_profile_grammar.specs.Blocks.{Profile as WrittenProfile}
 use Rattle.aa_profile_grammar.specs.Files.{File, file}
 use Rattle.aa_profile_parsing.specs.declared.language.Language.TheVariants.{Three}
 use Rattle.aa_profile_parsing.specs.declared.language.Language.{Language}
-use Rattle.aa_text_splicing.specs.Splicing.{Placed, spliced}
+use Rattle.aa_text_tokens.specs.Splicing.{Placed, spliced}
 use Rattle.aa_text_variables.specs.Variables.{Variable}
 use Rattle.aa_profile_data.specs.declared.profile.Profile.{Profile}
 use Rattle.aa_profile.specs.Assignments.{variables_of}
 use Rattle.aa_profile.specs.Conflicts.{refusal_of_conflicts}
 use Rattle.aa_profile.specs.States.{refusal_of_states}
-use Rattle.aa_profile_patterns.specs.PatternTokens.{of_profiles}
-use Rattle.aa_profile_patterns.specs.Patterns.{first_bad, over_limit}
-use Rattle.aa_profile_errors.specs.ProfileError.{error_of_grammar, refusal_of_text}
-use Rattle.aa_profile_making.specs.Profiles.{profile_of}
-use Rattle.aa_profile_errors.specs.declared.profile_error.ProfileError.{ProfileError}
+use Rattle.aa_profile_grammar.specs.PatternTokens.{of_profiles}
+use Rattle.aa_profile_grammar.specs.Patterns.{first_bad, over_limit}
+use Rattle.aa_profile_parsing.specs.ProfileError.{error_of_grammar, refusal_of_text}
+use Rattle.aa_profile.specs.Profiles.{profile_of}
+use Rattle.aa_profile_parsing.specs.declared.profile_error.ProfileError.{ProfileError}
 
 -- the refusal of patterns: there are too many, or some are none
 abbrev pub refusal_of_patterns : List Variable → List Placed → Option ProfileError

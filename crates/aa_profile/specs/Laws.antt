@@ -9,8 +9,8 @@ use Rattle.aa_profile_parsing.specs.declared.language.Language.{Language}
 use Rattle.aa_text_variables.specs.Variables.{Variable}
 use Rattle.aa_profile.specs.Conflicts.{refusal_of_conflicts}
 use Rattle.aa_profile.specs.FileReading.{refusal_of_patterns}
-use Rattle.aa_profile_patterns.specs.PatternTokens.{of_profiles}
-use Rattle.aa_profile_making.specs.Profiles.{profile_of}
+use Rattle.aa_profile_grammar.specs.PatternTokens.{of_profiles}
+use Rattle.aa_profile.specs.Profiles.{profile_of}
 
 -- no rule of a child or a hat conflicts with an earlier one
 abbrev pub ChildHasNoConflict : Child → Type 0

@@ -5,7 +5,9 @@ pub mod FileReading
 pub mod Laws
 pub mod NarrowProfiles
 pub mod PlaceLaws
+pub mod Plainness
 pub mod ProfileNames
+pub mod Profiles
 pub mod ReadPatterns
 pub mod Refusals
 pub mod States

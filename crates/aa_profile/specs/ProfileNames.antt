@@ -4,7 +4,7 @@ use Rattle.std.specs.List.{list_all}
 use Rattle.aa_profile_data.specs.Profile.{are_distinct_children}
 use Rattle.aa_profile_data.specs.declared.profile.Child.{Child}
 use Rattle.aa_profile_data.specs.declared.profile.Profile.{Profile}
-use Rattle.aa_profile_access.specs.Names.{is_name, is_top_name}
+use Rattle.aa_profile_data.specs.Names.{is_name, is_top_name}
 
 -- a child or a hat has a name as the grammar says
 abbrev pub is_child_named_well : Child → Bool

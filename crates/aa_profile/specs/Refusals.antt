@@ -1,8 +1,8 @@
 -- The refusals that reading a file gives.
 use Rattle.std.specs.Prelude.{◌≡◌, ◌≢◌, Result, Err, IfErr}
-use Rattle.aa_profile_errors.specs.ProfileError.{plain}
-use Rattle.aa_profile_errors.specs.declared.profile_error.ProfileError.{ProfileError}
-use Rattle.aa_profile_errors.specs.declared.profile_error.ProfileRefusal.TheVariants.{Memory}
+use Rattle.aa_profile_parsing.specs.ProfileError.{plain}
+use Rattle.aa_profile_parsing.specs.declared.profile_error.ProfileError.{ProfileError}
+use Rattle.aa_profile_parsing.specs.declared.profile_error.ProfileRefusal.TheVariants.{Memory}
 
 -- an error of the code is the refusal that the definitions tell instead of something else, unless memory ran out
 abbrev pub IsRefusalOf : {X Y : Type 0} → Result Y ProfileError → Result X ProfileError → Type 0

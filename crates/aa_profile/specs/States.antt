@@ -1,7 +1,7 @@
 -- The first block of a file, in language 4, whose exec rules have more states than they may: a profile, or a child or hat (docs/commands.md, "Limits").
 use Rattle.std.specs.Prelude.{if◌then◌else◌, List, [], ◌∷◌, map, Option, None, Some}
 use Rattle.std.specs.Option.{option_map}
-use Rattle.aa_text_splicing.specs.Splicing.{Placed}
+use Rattle.aa_text_tokens.specs.Splicing.{Placed}
 use Rattle.aa_text_variables.specs.Variables.{Variable}
 use Rattle.aa_profile_conflicts.specs.States.{has_many_states}
 use Rattle.aa_profile_data.specs.declared.profile.Child.{Child}
@@ -10,10 +10,10 @@ use Rattle.aa_profile_grammar.specs.Blocks.{OfChild, OfRule, Member, Profile as 
 use Rattle.aa_profile_parsing.specs.declared.language.Language.{Language}
 use Rattle.aa_profile_parsing.specs.declared.language.Language.TheVariants.{Four, Three}
 use Rattle.aa_profile_parsing.specs.Tokens.{place_of}
-use Rattle.aa_profile_making.specs.Profiles.{profile_of}
-use Rattle.aa_profile_errors.specs.ProfileError.{placed}
-use Rattle.aa_profile_errors.specs.declared.profile_error.ProfileError.{ProfileError}
-use Rattle.aa_profile_errors.specs.declared.profile_error.ProfileRefusal.TheVariants.{ManyStates}
+use Rattle.aa_profile.specs.Profiles.{profile_of}
+use Rattle.aa_profile_parsing.specs.ProfileError.{placed}
+use Rattle.aa_profile_parsing.specs.declared.profile_error.ProfileError.{ProfileError}
+use Rattle.aa_profile_parsing.specs.declared.profile_error.ProfileRefusal.TheVariants.{ManyStates}
 
 -- the token that names the first such child or hat among the members of a block, which make these children
 abbrev pub many_in_members : List Member → List Child → Option Placed

@@ -8,19 +8,18 @@ ghost use Rattle.aa_text_files.specs.declared.text_error.TextRefusal.TheVariants
 ghost use Rattle.aa_profile.specs.Assignments.{all_assigned, assigned, cycle, first_of, first_undefined, has_no_value, naming, undefined_name, variables_of};
 ghost use Rattle.aa_profile.specs.Refusals.{IsRefusalOf};
 ghost use Rattle.aa_profile.specs.code.FileReadingProgress.{first_undefined_value};
-ghost use Rattle.aa_profile_patterns.specs.Patterns.{have_expansions};
-ghost use Rattle.aa_profile_patterns.specs.Refusals.{IsRefusal};
+ghost use Rattle.aa_profile_grammar.specs.Patterns.{have_expansions};
+ghost use Rattle.aa_profile_grammar.specs.Refusals.{IsRefusal};
 ghost use Rattle.aa_profile_grammar.specs.SeenFiles.{seen_assignment};
 ghost use Rattle.aa_profile_parsing.specs.Tokens.{place_of, text_of};
 ghost use Rattle.aa_profile_parsing.specs.SeenTokens.{seen_tokens};
-ghost use Rattle.aa_profile_errors.specs.ProfileError.{plain};
-ghost use Rattle.aa_profile_errors.specs.declared.profile_error.ProfileRefusal.TheVariants.{Memory};
+ghost use Rattle.aa_profile_parsing.specs.ProfileError.{plain};
+ghost use Rattle.aa_profile_parsing.specs.declared.profile_error.ProfileRefusal.TheVariants.{Memory};
 
-use aa_profile_errors::{ProfileError, ProfileRefusal, placed};
 use aa_profile_grammar::Assignment;
-use aa_profile_parsing::place_of;
+use aa_profile_parsing::{ProfileError, ProfileRefusal, place_of, placed};
 use aa_text_files::{Place, TextError, TextRefusal};
-use aa_text_splicing::Spliced;
+use aa_text_tokens::Spliced;
 use aa_text_variables::{Variables, what_a_text_leads_to};
 use std::alloc::{AllocError, Global};
 

@@ -2,24 +2,22 @@
 
 ghost use Rattle.std.specs.Prelude.{◌≡◌, ◌≢◌, [], None, IfOk, IfErr, OnOk, map, true};
 ghost use Rattle.std.specs.Option.{option_map};
-ghost use Rattle.aa_profile_errors.specs.ProfileError.{plain};
-ghost use Rattle.aa_profile_errors.specs.declared.profile_error.ProfileRefusal.TheVariants.{Memory};
+ghost use Rattle.aa_profile_parsing.specs.ProfileError.{plain};
+ghost use Rattle.aa_profile_parsing.specs.declared.profile_error.ProfileRefusal.TheVariants.{Memory};
 ghost use Rattle.aa_profile_grammar.specs.SeenFiles.{seen_child, seen_member, seen_profile};
 ghost use Rattle.aa_profile_parsing.specs.Tokens.{place_of};
 ghost use Rattle.aa_profile_rules.specs.SeenRules.{seen_rule};
 ghost use Rattle.aa_profile.specs.Conflicts.{conflict_in_members, conflict_in_profiles, conflict_in_rules, pattern_of, refusal_of_conflicts};
-ghost use Rattle.aa_profile_patterns.specs.PatternTokens.{of_members, of_profiles, of_rule, of_rules};
-ghost use Rattle.aa_profile_patterns.specs.Patterns.{are_counted};
-ghost use Rattle.aa_profile_patterns.specs.Refusals.{IsRefusal};
-ghost use Rattle.aa_profile_making.specs.Profiles.{children_of, profile_of, rules_of, rules_of_members};
+ghost use Rattle.aa_profile_grammar.specs.PatternTokens.{of_members, of_profiles, of_rule, of_rules};
+ghost use Rattle.aa_profile_grammar.specs.Patterns.{are_counted};
+ghost use Rattle.aa_profile_grammar.specs.Refusals.{IsRefusal};
+ghost use Rattle.aa_profile.specs.Profiles.{children_of, profile_of, rules_of, rules_of_members};
 ghost use Rattle.aa_profile.specs.code.ConflictProgress.{Passes};
 
 use aa_profile_conflicts::first_conflict;
 use aa_profile_data::{Child, Profile, Rule};
-use aa_profile_errors::{ProfileError, ProfileRefusal, placed};
-use aa_profile_grammar::{Member, Profile as WrittenProfile, Rule as WrittenRule};
-use aa_profile_parsing::{Language, place_of};
-use aa_profile_patterns::rule_count;
+use aa_profile_grammar::{Member, Profile as WrittenProfile, Rule as WrittenRule, rule_count};
+use aa_profile_parsing::{Language, ProfileError, ProfileRefusal, place_of, placed};
 use aa_text_files::Place;
 use aa_text_variables::ExpansionTable;
 use std::alloc::Global;

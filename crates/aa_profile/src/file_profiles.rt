@@ -1,7 +1,7 @@
 //! The profiles of a file, and where they have what they have.
 
 use aa_profile_data::Profile;
-use aa_profile_patterns::ProfilePlaces;
+use aa_profile_grammar::ProfilePlaces;
 
 /// The profiles that a file spells, and where they have what they have. A profile doesn't know where it is written, so
 /// that two of equal rules are equal wherever they stand: the places lie beside.

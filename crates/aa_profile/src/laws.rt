@@ -13,12 +13,12 @@ ghost use Rattle.aa_profile.specs.PlaceLaws.{AreFileMadeAt};
 ghost use Rattle.aa_profile.specs.FilePlaces.{file_places_in};
 ghost use Rattle.aa_profile_data.specs.declared.profile.Profile.{Profile};
 ghost use Rattle.aa_profile_parsing.specs.declared.language.Language.{Language};
-ghost use Rattle.aa_profile_patterns.specs.declared.places.ProfilePlaces.{ProfilePlaces};
+ghost use Rattle.aa_profile_grammar.specs.declared.places.ProfilePlaces.{ProfilePlaces};
 ghost use Rattle.aa_profile.specs.ProfileNames.{has_distinct_children, is_named_well};
 ghost use Rattle.aa_profile.specs.ReadPatterns.{HasReadPatterns};
 
 use aa_profile_data::how_conflicts_are_tested;
-use aa_profile_flags::which_mode_flags_language_3_has;
+use aa_profile_parsing::which_mode_flags_language_3_has;
 use aa_profile_rules::which_rules_language_3_has;
 
 /// No two profiles of a file have one name. Each profile has a name as the grammar says, and so have its children and hats. No two children or

@@ -11,25 +11,23 @@ ghost use Rattle.aa_profile.specs.FilePlaces.{file_places, file_places_in, place
 ghost use Rattle.aa_profile.specs.FileReading.{file_profiles, file_profiles_in, profiles_in, profiles_with};
 ghost use Rattle.aa_profile.specs.Refusals.{IsRefusalOf};
 ghost use Rattle.aa_profile.specs.Assignments.{has_no_value};
-ghost use Rattle.aa_profile_patterns.specs.PatternTokens.{of_profiles};
-ghost use Rattle.aa_profile_patterns.specs.Patterns.{have_expansions};
-ghost use Rattle.aa_profile_patterns.specs.Places.{places_of_profile};
-ghost use Rattle.aa_profile_errors.specs.ProfileError.{plain};
+ghost use Rattle.aa_profile_grammar.specs.PatternTokens.{of_profiles};
+ghost use Rattle.aa_profile_grammar.specs.Patterns.{have_expansions};
+ghost use Rattle.aa_profile_grammar.specs.Places.{places_of_profile};
+ghost use Rattle.aa_profile_parsing.specs.ProfileError.{plain};
 ghost use Rattle.aa_profile.specs.ProfileNames.{has_distinct_children, is_named_well};
-ghost use Rattle.aa_profile_errors.specs.declared.profile_error.ProfileRefusal.TheVariants.{Memory};
+ghost use Rattle.aa_profile_parsing.specs.declared.profile_error.ProfileRefusal.TheVariants.{Memory};
 
 use crate::assignments::read_variables;
 use crate::conflicts::check_conflicts;
 use crate::file_profiles::FileProfiles;
+use crate::profiles::read_profiles;
 use crate::states::check_states;
-use aa_profile_errors::ProfileError;
-use aa_profile_grammar::File;
-use aa_profile_making::read_profiles;
-use aa_profile_parsing::Language;
-use aa_profile_patterns::{check_limit, pattern_tokens, read_places};
+use aa_profile_grammar::{File, check_limit, pattern_tokens, read_places};
+use aa_profile_parsing::{Language, ProfileError};
 use aa_profile_rules::which_numbers_rules_have;
 use aa_text_files::Files;
-use aa_text_splicing::{Spliced, spliced};
+use aa_text_tokens::{Spliced, spliced};
 use aa_text_variables::{ExpansionTable, Variables};
 use std::alloc::Global;
 
@@ -82,7 +80,7 @@ fn read_written(
 /// # Errors
 ///
 /// Each phase goes over the whole file, and the first that refuses decides.
-/// - As `aa_text_splicing::spliced` refuses the file's text and its includes, at the same place.
+/// - As `aa_text_tokens::spliced` refuses the file's text and its includes, at the same place.
 /// - As `aa_profile_grammar::read_file` refuses its tokens, at the first token, from the left, that the grammar doesn't take at its place.
 /// - `Redefined` and `AppendUndefined`, at the first assignment that is refused so; then `Undefined`, at the first value, attachment or
 ///   pattern that names a variable that isn't defined, or doesn't close a name; then `Cycle`, at the first assignment of the first variable

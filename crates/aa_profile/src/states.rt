@@ -5,13 +5,12 @@ ghost use Rattle.std.specs.Option.{option_map};
 ghost use Rattle.aa_profile.specs.States.{many_in_members, many_in_profile, many_in_profiles, refusal_of_many};
 ghost use Rattle.aa_profile_grammar.specs.SeenFiles.{seen_member, seen_profile};
 ghost use Rattle.aa_profile_parsing.specs.Tokens.{place_of};
-ghost use Rattle.aa_profile_patterns.specs.Refusals.{IsRefusal};
+ghost use Rattle.aa_profile_grammar.specs.Refusals.{IsRefusal};
 
 use aa_profile_conflicts::has_many_states;
 use aa_profile_data::{Child, Profile};
-use aa_profile_errors::{ProfileError, ProfileRefusal, placed};
 use aa_profile_grammar::{Member, Profile as WrittenProfile};
-use aa_profile_parsing::{Language, place_of};
+use aa_profile_parsing::{Language, ProfileError, ProfileRefusal, place_of, placed};
 use aa_text_files::Place;
 use std::alloc::{AllocError, Global};
 

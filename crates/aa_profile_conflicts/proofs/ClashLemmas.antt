@@ -5,7 +5,7 @@ use Rattle.std.specs.Option.{option_map}
 use Rattle.std.proofs.lemmas.List.{length-map}
 use Rattle.std.proofs.lemmas.List.Elements.{All-contains, All-nil}
 use Rattle.std.proofs.lemmas.Option.{get_or_from_slice_get, slice_get_within}
-use Rattle.aa_glob_automaton.specs.Automata.{AreRead, IsAutomatonOf}
+use Rattle.aa_glob.specs.Automata.{AreRead, IsAutomatonOf}
 use Rattle.aa_glob_nfa.specs.Graphs.{Graph}
 use Rattle.aa_glob_pattern.specs.Laws.{OverlapsAreTested}
 use Rattle.aa_glob_pairs.specs.Clashes.{IsLeast}

@@ -6,8 +6,8 @@ use Rattle.std.proofs.lemmas.Bool.{cases_Bool, lt-ltb, ltb-true}
 use Rattle.std.proofs.lemmas.List.{length-append, length-reverse, take-append-drop, take_more}
 use Rattle.std.proofs.lemmas.List.Elements.{filter_map-append}
 use Rattle.std.proofs.lemmas.List.Sums.{sum_by-append, sum_by-cons}
-use Rattle.aa_glob_automaton.proofs.StateLemmas.{more-states}
-use Rattle.aa_glob_automaton.specs.States.{same_trail, state_count, with_beginning, with_beginnings, with_texts}
+use Rattle.aa_glob.proofs.StateLemmas.{more-states}
+use Rattle.aa_glob.specs.States.{same_trail, state_count, with_beginning, with_beginnings, with_texts}
 use Rattle.aa_glob_pattern.proofs.BoundLemmas.{length-elements_of}
 use Rattle.aa_glob_pattern.specs.Beginnings.{most_states}
 use Rattle.aa_glob_pattern.specs.Elements.{elements_of}

@@ -1,7 +1,7 @@
 -- How many states the exec rules of a block have: the different beginnings of their patterns, those of deny rules too (docs/commands.md, "Limits").
 use Rattle.std.specs.Prelude.{ℕ, Bool, nat_lt, if◌then◌else◌, List, Option, None, Some}
 use Rattle.std.specs.List.{filter_map}
-use Rattle.aa_glob_automaton.specs.States.{state_count}
+use Rattle.aa_glob.specs.States.{state_count}
 use Rattle.aa_profile_data.specs.Cover.{covers_exec}
 use Rattle.aa_profile_data.specs.declared.profile.Rule.{Rule}
 use Rattle.aa_profile_data.specs.declared.profile.Rule.TheVariants.{Cap, File, Net, Other}

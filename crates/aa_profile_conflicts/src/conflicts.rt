@@ -3,8 +3,8 @@
 ghost use Rattle.std.specs.Prelude.{◌≡◌, ◌++◌, ◌∷◌, [], ℕ, List, IfOk};
 ghost use Rattle.std.specs.Option.{option_map};
 ghost use Rattle.std.specs.Prelude.{slice_get};
-ghost use Rattle.aa_glob_automaton.specs.Automata.{IsAutomatonOf};
-ghost use Rattle.aa_glob_automaton.specs.Built.{IsBuilt};
+ghost use Rattle.aa_glob.specs.Automata.{IsAutomatonOf};
+ghost use Rattle.aa_glob.specs.Built.{IsBuilt};
 ghost use Rattle.aa_glob_pairs.specs.Clashes.{IsLeast};
 ghost use Rattle.aa_profile_conflicts.specs.Conflicting.{ConflictsAt, lesser};
 ghost use Rattle.aa_profile_conflicts.specs.Leads.{patterns_by, place_of, placed_from};
@@ -12,7 +12,7 @@ ghost use Rattle.aa_profile_data.specs.Conflicts.{first_conflict};
 
 use crate::classes::classes_of;
 use crate::lead::lead_by;
-use aa_glob_automaton::{Automaton, AutomatonBuilder};
+use aa_glob::{Automaton, AutomatonBuilder};
 use aa_glob_pattern::how_overlaps_are_tested;
 use aa_profile_data::{Rank, Rule};
 use std::alloc::{AllocError, Global};

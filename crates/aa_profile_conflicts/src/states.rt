@@ -2,11 +2,11 @@
 
 ghost use Rattle.std.specs.Prelude.{◌≡◌, ◌++◌, ◌∷◌, [], ℕ, List, IfOk, nat_lt};
 ghost use Rattle.std.specs.Option.{option_map};
-ghost use Rattle.aa_glob_automaton.specs.Built.{IsBuilt};
+ghost use Rattle.aa_glob.specs.Built.{IsBuilt};
 ghost use Rattle.aa_glob_pattern.specs.Beginnings.{most_states};
 ghost use Rattle.aa_profile_conflicts.specs.States.{exec_pattern, exec_patterns, has_many_states, most_exec_states};
 
-use aa_glob_automaton::AutomatonBuilder;
+use aa_glob::AutomatonBuilder;
 use aa_glob_pattern::Pattern;
 use aa_profile_data::Rule;
 use std::alloc::{AllocError, Global};

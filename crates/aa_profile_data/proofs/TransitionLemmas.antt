@@ -1,9 +1,9 @@
 -- Transitions are the same exactly where they are equal.
 use Rattle.std.proofs.Common.{◌≡◌, ℕ, Bool, true, false, ◌&&◌, List, Option, None, Some, ap, refl, subst, sym, ◌∙◌}
 use Rattle.std.proofs.lemmas.Slice.Eq.{bytes_eq-Decides}
-use Rattle.aa_profile_access.specs.ExecWords.{exec_word, row, same_word}
-use Rattle.aa_profile_access.specs.declared.exec_word.ExecWord.{ExecWord}
-use Rattle.aa_profile_access.specs.declared.exec_word.ExecWord.TheVariants.{Child, ChildInherit, ChildInheritScrub, ChildScrub, ChildUnconfined, ChildUnconfinedScrub, Inherit, Profile, ProfileInherit, ProfileInheritScrub, ProfileScrub, ProfileUnconfined, ProfileUnconfinedScrub, Unconfined, UnconfinedScrub}
+use Rattle.aa_profile_data.specs.ExecWords.{exec_word, row, same_word}
+use Rattle.aa_profile_data.specs.declared.exec_word.ExecWord.{ExecWord}
+use Rattle.aa_profile_data.specs.declared.exec_word.ExecWord.TheVariants.{Child, ChildInherit, ChildInheritScrub, ChildScrub, ChildUnconfined, ChildUnconfinedScrub, Inherit, Profile, ProfileInherit, ProfileInheritScrub, ProfileScrub, ProfileUnconfined, ProfileUnconfinedScrub, Unconfined, UnconfinedScrub}
 use Rattle.aa_profile_data.specs.Conflicts.{same_target, same_transition}
 use Rattle.aa_profile_data.specs.declared.profile.Transition.{Transition}
 

@@ -6,7 +6,7 @@ use Rattle.std.specs.Option.{option_map}
 use Rattle.std.specs.Str.{bytes_eq}
 use Rattle.aa_glob_pattern.specs.Shared.{overlaps}
 use Rattle.aa_glob_syntax.specs.Overlap.{Overlap}
-use Rattle.aa_profile_access.specs.ExecWords.{same_word}
+use Rattle.aa_profile_data.specs.ExecWords.{same_word}
 use Rattle.aa_profile_data.specs.declared.profile.Child.{Child}
 use Rattle.aa_profile_data.specs.Ranks.{same_rank}
 use Rattle.aa_profile_data.specs.declared.profile.Profile.{Profile}

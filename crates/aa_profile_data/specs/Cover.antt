@@ -1,9 +1,9 @@
 -- What rules cover (apparmor.d(5), "Execute Rules", "Capability Rules" and "Network Rules"; docs/policy.md, "Rules").
 use Rattle.std.specs.Prelude.{ℕ, Bool, true, not, ◌&&◌, ◌||◌, ◌==◌, Option, None, Some, is_some}
 use Rattle.std.specs.Int.{bit_at}
-use Rattle.aa_profile_access.specs.Access.{EXEC, has}
-use Rattle.aa_profile_tables.specs.Domains.{has_protocols}
-use Rattle.aa_profile_tables.specs.Kinds.{is_protocol, type_of}
+use Rattle.aa_profile_data.specs.Access.{EXEC, has}
+use Rattle.aa_profile_data.specs.Domains.{has_protocols}
+use Rattle.aa_profile_data.specs.Kinds.{is_protocol, type_of}
 use Rattle.aa_profile_data.specs.declared.profile.CapRule.{CapRule}
 use Rattle.aa_profile_data.specs.declared.profile.FileRule.{FileRule}
 use Rattle.aa_profile_data.specs.declared.profile.NetRule.{NetRule}

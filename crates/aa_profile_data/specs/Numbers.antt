@@ -5,7 +5,7 @@ use Rattle.aa_profile_data.specs.declared.profile.Child.{Child}
 use Rattle.aa_profile_data.specs.declared.profile.Profile.{Profile}
 use Rattle.aa_profile_data.specs.declared.profile.Rule.{Rule}
 use Rattle.aa_profile_data.specs.declared.profile.Rule.TheVariants.{Cap, File, Net, Other}
-use Rattle.aa_profile_tables.specs.KnownNumbers.{are_capabilities, is_domain, is_kind}
+use Rattle.aa_profile_data.specs.KnownNumbers.{are_capabilities, is_domain, is_kind}
 
 -- a rule has no number that doesn't stand in the tables
 abbrev pub has_known_numbers : Rule → Bool

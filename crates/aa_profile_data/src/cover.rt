@@ -3,9 +3,10 @@
 ghost use Rattle.std.specs.Prelude.{◌≡◌};
 ghost use Rattle.aa_profile_data.specs.Cover.{covers_capability, covers_domain, covers_exec, covers_kind, covers_socket, has_number};
 
+use crate::access::Perms;
+use crate::domains::has_protocols;
+use crate::kinds::{is_protocol, type_of};
 use crate::profile::{CapRule, FileRule, NetRule};
-use aa_profile_access::Perms;
-use aa_profile_tables::{has_protocols, is_protocol, type_of};
 use bitflags::Flags;
 
 // Whether a set has a number.

@@ -5,9 +5,10 @@ ghost use Rattle.aa_profile_data.specs.Conflicts.{same_target, same_transition};
 ghost use Rattle.aa_profile_data.specs.Profile.{child_place};
 ghost use Rattle.aa_profile_data.specs.Ranks.{same_rank};
 
+use crate::access::Perms;
+use crate::exec_word::ExecWord;
 use aa_bytes::{Sequence, SharedBytes, share_option};
 use aa_glob_pattern::Pattern;
-use aa_profile_access::{ExecWord, Perms};
 use std::alloc::{AllocError, Global};
 
 /// Whether what the rules don't allow is refused, or let through and logged, or no rule is asked.
@@ -80,7 +81,7 @@ pub struct FileRule {
 /// A rule on capabilities.
 #[derive(Clone, Copy, Debug, PartialEq, Eq)]
 pub struct CapRule {
-    /// The set of the capabilities that it is about: the bit of each number of `aa_profile_tables` tells whether that one is.
+    /// The set of the capabilities that it is about: the bit of each number of `aa_profile_data` tells whether that one is.
     pub caps: u64,
     /// Whether it denies what it covers.
     pub deny: bool,

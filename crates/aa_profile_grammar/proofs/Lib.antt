@@ -1,4 +1,5 @@
 pub mod FileLemmas
 pub mod NameLemmas
+pub mod PatternLemmas
 pub mod PreambleLemmas
 pub mod SequenceLemmas

@@ -3,9 +3,9 @@ use Rattle.std.proofs.Common.{◌≡◌, ℕ, ◌-◌, ◌<◌, Bool, false, Lis
 use Rattle.std.specs.Prelude.{◌==◌}
 use Rattle.std.proofs.lemmas.Bool.Decides.{nat_tests}
 use Rattle.std.proofs.lemmas.List.{drop-map, take-map, take_rest}
-use Rattle.aa_text_splicing.specs.Splicing.{Placed}
-use Rattle.aa_text_splicing.specs.SeenTokens.{seen_spliced}
-use Rattle.aa_text_splicing.specs.declared.spliced_token.Spliced.{Spliced}
+use Rattle.aa_text_tokens.specs.Splicing.{Placed}
+use Rattle.aa_text_tokens.specs.SeenSplicedTokens.{seen_spliced}
+use Rattle.aa_text_tokens.specs.declared.spliced_token.Spliced.{Spliced}
 use Rattle.aa_profile_parsing.specs.Parts.{Part}
 use Rattle.aa_profile_parsing.specs.SeenTokens.{seen_tokens}
 use Rattle.aa_profile_grammar.specs.Preamble.{Assignment, assignment, value_count}

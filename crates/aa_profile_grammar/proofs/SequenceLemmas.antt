@@ -1,9 +1,9 @@
 -- Parts in a row, one by one.
 use Rattle.std.proofs.Common.{◌≡◌, ℕ, zero, suc, ◌<◌, List, [], ◌∷◌, ◌++◌, length, Ok, Err, refl, sym, arith}
 use Rattle.std.proofs.lemmas.List.{length-map}
-use Rattle.aa_text_splicing.specs.Splicing.{Placed}
-use Rattle.aa_text_splicing.specs.SeenTokens.{seen_spliced}
-use Rattle.aa_text_splicing.specs.declared.spliced_token.Spliced.{Spliced}
+use Rattle.aa_text_tokens.specs.Splicing.{Placed}
+use Rattle.aa_text_tokens.specs.SeenSplicedTokens.{seen_spliced}
+use Rattle.aa_text_tokens.specs.declared.spliced_token.Spliced.{Spliced}
 use Rattle.aa_profile_parsing.specs.Parts.{Part}
 use Rattle.aa_profile_parsing.specs.SeenTokens.{seen_tokens}
 use Rattle.aa_profile_parsing.specs.declared.fault.Fault.{Fault}

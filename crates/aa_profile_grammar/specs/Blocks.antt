@@ -2,8 +2,8 @@
 use Rattle.std.specs.Prelude.{ℕ, Bool, true, false, not, if◌then◌else◌, List, [], ◌∷◌, Option, None, Some, Ok, Err, codes}
 use Rattle.std.specs.List.{list_any}
 use Rattle.std.specs.Str.{bytes_eq}
-use Rattle.aa_text_splicing.specs.Splicing.{Placed}
-use Rattle.aa_profile_access.specs.Names.{is_name, is_top_name}
+use Rattle.aa_text_tokens.specs.Splicing.{Placed}
+use Rattle.aa_profile_data.specs.Names.{is_name, is_top_name}
 use Rattle.aa_profile_parsing.specs.Parts.{Part, followed, refused}
 use Rattle.aa_profile_parsing.specs.Tokens.{is_close_brace, is_word_of, place_of}
 use Rattle.aa_profile_parsing.specs.declared.fault.Fault.{Fault}

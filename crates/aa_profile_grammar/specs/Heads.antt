@@ -2,15 +2,15 @@
 use Rattle.std.specs.Prelude.{ℕ, Bool, ◌&&◌, ◌||◌, if◌then◌else◌, List, [], ◌∷◌, drop, Option, None, Some, Ok, codes}
 use Rattle.aa_bytes.specs.Bytes.{caret, slash}
 use Rattle.aa_bytes.specs.Texts.{begins_with_byte}
-use Rattle.aa_text_splicing.specs.Splicing.{Placed}
+use Rattle.aa_text_tokens.specs.Splicing.{Placed}
 use Rattle.aa_text_tokens.specs.declared.cut.TokenKind.TheVariants.{Assign}
 use Rattle.aa_profile_parsing.specs.Parts.{Part, expected, followed, refused}
 use Rattle.aa_profile_parsing.specs.Tokens.{is_pattern, is_text, is_word, is_word_of, text_of}
 use Rattle.aa_profile_parsing.specs.declared.fault.GrammarRefusal.TheVariants.{BadToken, LateAssignment}
 use Rattle.aa_profile_parsing.specs.declared.language.Language.{Language}
-use Rattle.aa_profile_flags.specs.Flags.{flags}
-use Rattle.aa_profile_flags.specs.IdleFlags.{flag_tokens}
-use Rattle.aa_profile_flags.specs.declared.flags.Flags.{Flags}
+use Rattle.aa_profile_parsing.specs.Flags.{flags}
+use Rattle.aa_profile_parsing.specs.IdleFlags.{flag_tokens}
+use Rattle.aa_profile_parsing.specs.declared.flags.Flags.{Flags}
 use Rattle.aa_profile_grammar.specs.declared.heads.Form.{Form}
 use Rattle.aa_profile_grammar.specs.declared.heads.Form.TheVariants.{Profile, Path, Hat}
 

@@ -1,7 +1,12 @@
 pub mod Blocks
 pub mod Files
 pub mod Heads
+pub mod Limits
+pub mod PatternTokens
+pub mod Patterns
+pub mod Places
 pub mod Preamble
+pub mod Refusals
 pub mod SeenFiles
 pub mod Sequences
 pub mod code

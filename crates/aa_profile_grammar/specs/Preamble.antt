@@ -2,7 +2,7 @@
 -- (apparmor.d(5), "PREAMBLE"; docs/policy.md, "Files").
 use Rattle.std.specs.Prelude.{ℕ, Bool, true, false, ◌==◌, if◌then◌else◌, List, [], ◌∷◌, take, drop, Result, Ok, Err, codes}
 use Rattle.std.specs.List.{prefix_len}
-use Rattle.aa_text_splicing.specs.Splicing.{Placed}
+use Rattle.aa_text_tokens.specs.Splicing.{Placed}
 use Rattle.aa_text_tokens.specs.declared.cut.TokenKind.{TokenKind}
 use Rattle.aa_text_tokens.specs.declared.cut.TokenKind.TheVariants.{Assign, Value}
 use Rattle.aa_profile_grammar.specs.Sequences.{rows, skipped}

@@ -1,7 +1,7 @@
 -- What the code's files, and the parts that they are made of, are as the definitions see them.
 use Rattle.std.specs.Prelude.{map}
 use Rattle.std.specs.Option.{option_map}
-use Rattle.aa_text_splicing.specs.SeenTokens.{seen_spliced}
+use Rattle.aa_text_tokens.specs.SeenSplicedTokens.{seen_spliced}
 use Rattle.aa_profile_parsing.specs.SeenTokens.{seen_tokens}
 use Rattle.aa_profile_rules.specs.SeenRules.{seen_rule}
 use Rattle.aa_profile_grammar.specs.Blocks.{OfChild, OfRule, Child as SeenChild, Member as SeenMember, Profile as SeenProfile}

@@ -1,6 +1,6 @@
 -- Parts of one kind in a row.
 use Rattle.std.specs.Prelude.{ℕ, zero, suc, List, [], ◌∷◌, ◌++◌, length, Result, Ok, Err}
-use Rattle.aa_text_splicing.specs.Splicing.{Placed}
+use Rattle.aa_text_tokens.specs.Splicing.{Placed}
 use Rattle.aa_profile_parsing.specs.Parts.{Part}
 use Rattle.aa_profile_parsing.specs.declared.fault.Fault.{Fault}
 use Rattle.aa_profile_parsing.specs.declared.fault.Fault.TheVariants.{RanOut}

@@ -1,7 +1,7 @@
 //! Profiles, children and hats, whole.
 
 ghost use Rattle.std.specs.Prelude.{◌≡◌, ◌<◌, IfOk, IfErr, false, length, map};
-ghost use Rattle.aa_text_splicing.specs.SeenTokens.{seen_spliced};
+ghost use Rattle.aa_text_tokens.specs.SeenSplicedTokens.{seen_spliced};
 ghost use Rattle.aa_profile_parsing.specs.Readings.{IsFault, IsFaultOrMemory, IsRead};
 ghost use Rattle.aa_profile_rules.specs.SeenRules.{seen_rule};
 ghost use Rattle.aa_profile_grammar.specs.Blocks.{all_profiles, child_behind, child_block, profile_behind, profile_block};
@@ -15,11 +15,10 @@ use crate::heads::{Form, Head, Named, begins_child, read_child_name, read_head, 
 use crate::preamble::read_version;
 use crate::sequence::{Next, Rest};
 use crate::so_far::{MembersSoFar, ProfilesSoFar};
-use aa_profile_access::{is_name, is_top_name};
+use aa_profile_data::{is_name, is_top_name};
 use aa_profile_parsing::{Fault, GrammarRefusal, Language, is_word_of, refusal_at};
 use aa_profile_rules::{Rule, read_rule};
-use aa_text_splicing::Spliced;
-use aa_text_tokens::TokenKind;
+use aa_text_tokens::{Spliced, TokenKind};
 use std::alloc::Global;
 
 /// A child of a profile, or a hat.

@@ -10,7 +10,7 @@ ghost use Rattle.aa_profile_grammar.specs.code.SomeProfiles.{some_profiles};
 use crate::blocks::{Profile, read_profiles};
 use crate::preamble::{Assignment, read_preamble};
 use aa_profile_parsing::{Fault, GrammarError, GrammarRefusal, Language};
-use aa_text_splicing::Spliced;
+use aa_text_tokens::Spliced;
 use std::alloc::Global;
 
 /// A profile's file as it is written.

@@ -2,7 +2,7 @@
 
 ghost use Rattle.std.specs.Prelude.{◌≡◌, ◌<◌, ◌≤◌, IfOk, IfErr, length};
 ghost use Rattle.std.specs.Option.{option_map};
-ghost use Rattle.aa_text_splicing.specs.SeenTokens.{seen_spliced};
+ghost use Rattle.aa_text_tokens.specs.SeenSplicedTokens.{seen_spliced};
 ghost use Rattle.aa_profile_parsing.specs.Readings.{IsFault, IsRead};
 ghost use Rattle.aa_profile_parsing.specs.SeenTokens.{seen_tokens};
 ghost use Rattle.aa_profile_grammar.specs.Heads.{attachment, begins_child, child_name, head, is_short_hat, name_behind, top_name};
@@ -10,12 +10,11 @@ ghost use Rattle.aa_profile_grammar.specs.code.Seen.{seen_named};
 ghost use Rattle.aa_profile_grammar.specs.SeenFiles.{seen_head};
 
 use aa_bytes::{begins_with_byte, behind};
-use aa_profile_flags::{Flags, flag_tokens, read_flags};
 use aa_profile_parsing::{
-    Fault, GrammarRefusal, Language, is_pattern, is_word_of, read_text, refusal_at,
+    Fault, Flags, GrammarRefusal, Language, flag_tokens, is_pattern, is_word_of, read_flags,
+    read_text, refusal_at,
 };
-use aa_text_splicing::Spliced;
-use aa_text_tokens::TokenKind;
+use aa_text_tokens::{Spliced, TokenKind};
 
 /// How a head begins.
 #[derive(Clone, Copy)]

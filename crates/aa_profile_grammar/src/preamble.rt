@@ -1,7 +1,7 @@
 //! What may stand before the profiles of a file.
 
 ghost use Rattle.std.specs.Prelude.{◌≡◌, ◌<◌, ◌≤◌, Ok, IfOk, IfErr, false, length};
-ghost use Rattle.aa_text_splicing.specs.SeenTokens.{seen_spliced};
+ghost use Rattle.aa_text_tokens.specs.SeenSplicedTokens.{seen_spliced};
 ghost use Rattle.aa_profile_parsing.specs.Readings.{IsFault, IsFaultOrMemory, IsRead};
 ghost use Rattle.aa_profile_parsing.specs.SeenTokens.{seen_tokens};
 ghost use Rattle.aa_profile_grammar.specs.Preamble.{assignment, behind_version, next_assignment, preamble, value_count, version_or_end};
@@ -11,8 +11,7 @@ ghost use Rattle.aa_profile_grammar.specs.SeenFiles.{seen_assignment};
 
 use crate::sequence::{Next, Rest};
 use aa_profile_parsing::{Fault, is_word_of, read_comma, read_text, unexpected};
-use aa_text_splicing::Spliced;
-use aa_text_tokens::TokenKind;
+use aa_text_tokens::{Spliced, TokenKind};
 use std::alloc::Global;
 
 /// An assignment of a variable.

@@ -1,6 +1,6 @@
 //! Parts of one kind in a row.
 
-use aa_text_splicing::Spliced;
+use aa_text_tokens::Spliced;
 
 /// Tokens that weren't read yet.
 #[derive(Clone, Copy)]

@@ -1,7 +1,14 @@
+pub mod FlagRefusals
+pub mod FlagText
+pub mod Flags
 pub mod GrammarError
 pub mod GrammarRefusal
+pub mod IdleFlags
+pub mod KeptFlags
 pub mod Languages
+pub mod NarrowFlags
 pub mod Parts
+pub mod ProfileError
 pub mod Readings
 pub mod SeenTokens
 pub mod Tokens

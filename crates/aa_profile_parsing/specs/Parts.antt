@@ -1,7 +1,7 @@
 -- Parts of a file's grammar. A part is a function from tokens to what it reads and the tokens behind it, or to a fault: a refusal at the
 -- first token, from the left, that the grammar doesn't take at its place, or that the tokens ran out.
 use Rattle.std.specs.Prelude.{Bool, if◌then◌else◌, List, [], ◌∷◌, Result, Ok, Err}
-use Rattle.aa_text_splicing.specs.Splicing.{Placed}
+use Rattle.aa_text_tokens.specs.Splicing.{Placed}
 use Rattle.aa_profile_parsing.specs.Tokens.{is_comma, place_of}
 use Rattle.aa_profile_parsing.specs.declared.fault.Fault.{Fault}
 use Rattle.aa_profile_parsing.specs.declared.fault.Fault.TheVariants.{At, RanOut}

@@ -1,8 +1,8 @@
 -- What the code gives for a part of the grammar: what was read and the tokens behind it, or a fault.
 use Rattle.std.specs.Prelude.{◌≡◌, ◌≢◌, List, Result, Ok, Err}
 use denote.Ref.{Bor}
-use Rattle.aa_text_splicing.specs.Splicing.{Placed}
-use Rattle.aa_text_splicing.specs.declared.spliced_token.Spliced.{Spliced}
+use Rattle.aa_text_tokens.specs.Splicing.{Placed}
+use Rattle.aa_text_tokens.specs.declared.spliced_token.Spliced.{Spliced}
 use Rattle.aa_profile_parsing.specs.Parts.{Part}
 use Rattle.aa_profile_parsing.specs.SeenTokens.{seen_tokens}
 use Rattle.aa_profile_parsing.specs.declared.fault.Fault.{Fault}

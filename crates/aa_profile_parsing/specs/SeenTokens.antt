@@ -1,8 +1,8 @@
 -- What the code's tokens are as the definitions see them.
 use Rattle.std.specs.Prelude.{List, map}
-use Rattle.aa_text_splicing.specs.Splicing.{Placed}
-use Rattle.aa_text_splicing.specs.SeenTokens.{seen_spliced}
-use Rattle.aa_text_splicing.specs.declared.spliced_token.Spliced.{Spliced}
+use Rattle.aa_text_tokens.specs.Splicing.{Placed}
+use Rattle.aa_text_tokens.specs.SeenSplicedTokens.{seen_spliced}
+use Rattle.aa_text_tokens.specs.declared.spliced_token.Spliced.{Spliced}
 
 -- tokens of the code
 abbrev pub seen_tokens : List Spliced → List Placed

@@ -1,14 +1,14 @@
 //! Why a file's grammar can't go on.
 
 ghost use Rattle.std.specs.Prelude.{◌≡◌};
-ghost use Rattle.aa_text_splicing.specs.SeenTokens.{seen_spliced};
+ghost use Rattle.aa_text_tokens.specs.SeenSplicedTokens.{seen_spliced};
 ghost use Rattle.aa_profile_parsing.specs.GrammarRefusal.{name_of, number_of};
 ghost use Rattle.aa_profile_parsing.specs.Tokens.{place_of};
 ghost use Rattle.aa_profile_parsing.specs.declared.fault.Fault.TheVariants.{At, Memory};
 
 use crate::token::place_of;
 use aa_text_files::Place;
-use aa_text_splicing::Spliced;
+use aa_text_tokens::Spliced;
 use std::alloc::{AllocError, AllocFailed};
 
 /// What is wrong in the grammar of a file.

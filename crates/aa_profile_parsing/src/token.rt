@@ -1,7 +1,7 @@
 //! Tokens by what they can be in the grammar of a profile's file.
 
 ghost use Rattle.std.specs.Prelude.{◌≡◌, ◌<◌, Ok, IfOk, IfErr, length};
-ghost use Rattle.aa_text_splicing.specs.SeenTokens.{seen_spliced};
+ghost use Rattle.aa_text_tokens.specs.SeenSplicedTokens.{seen_spliced};
 ghost use Rattle.aa_profile_parsing.specs.Parts.{behind_comma, expected, unexpected};
 ghost use Rattle.aa_profile_parsing.specs.Tokens.{is_pattern, is_text, is_word_of, place_of};
 ghost use Rattle.aa_profile_parsing.specs.Readings.{IsFault, IsRead};
@@ -10,8 +10,7 @@ ghost use Rattle.aa_profile_parsing.specs.SeenTokens.{seen_tokens};
 use crate::fault::{Fault, GrammarRefusal, refusal_at};
 use aa_bytes::begins_with_byte;
 use aa_text_files::Place;
-use aa_text_splicing::Spliced;
-use aa_text_tokens::TokenKind;
+use aa_text_tokens::{Spliced, TokenKind};
 
 /// The place of a token.
 pub fn place_of(token: Spliced<'_>) -> Place

@@ -1,14 +1,14 @@
 -- The rules of language 3: none that lets all, and no stacks.
 use Rattle.std.proofs.Common.{◌≡◌, ℕ, Bool, true, false, List, [], ◌∷◌, Option, None, Some, Ok, refl}
 use Rattle.std.specs.Prelude.{IfSome, if◌then◌else◌, codes}
-use Rattle.aa_text_splicing.specs.Splicing.{Placed}
-use Rattle.aa_profile_access.specs.ExecWords.{row}
-use Rattle.aa_profile_access.specs.FullNames.{is_full_name}
-use Rattle.aa_profile_access.specs.Names.{is_top_name}
-use Rattle.aa_profile_access.specs.Stacks.{stack_of}
-use Rattle.aa_profile_access.specs.declared.exec_word.Destination.{Destination}
-use Rattle.aa_profile_access.specs.declared.exec_word.Destination.TheVariants as to
-use Rattle.aa_profile_access.specs.declared.exec_word.ExecWord.{ExecWord}
+use Rattle.aa_text_tokens.specs.Splicing.{Placed}
+use Rattle.aa_profile_data.specs.ExecWords.{row}
+use Rattle.aa_profile_data.specs.FullNames.{is_full_name}
+use Rattle.aa_profile_data.specs.Names.{is_top_name}
+use Rattle.aa_profile_data.specs.Stacks.{stack_of}
+use Rattle.aa_profile_data.specs.declared.exec_word.Destination.{Destination}
+use Rattle.aa_profile_data.specs.declared.exec_word.Destination.TheVariants as to
+use Rattle.aa_profile_data.specs.declared.exec_word.ExecWord.{ExecWord}
 use Rattle.aa_profile_parsing.specs.Parts.{Part, expected, refused}
 use Rattle.aa_profile_parsing.specs.Tokens.{is_text, is_word_of, text_of}
 use Rattle.aa_profile_parsing.specs.declared.fault.GrammarRefusal.TheVariants.{BadName, TargetWithoutExec}

@@ -4,11 +4,11 @@ use Rattle.std.specs.Prelude.{IfSome, nat_lt, if◌then◌else◌, codes}
 use Rattle.std.proofs.lemmas.Bool.{and_parts, lt-ltb, ltb-true}
 use Rattle.std.proofs.lemmas.Nat.{or_lt, pow_below}
 use Rattle.std.proofs.lemmas.Result.{IfOk-weaker}
-use Rattle.aa_text_splicing.specs.Splicing.{Placed}
-use Rattle.aa_profile_tables.specs.Capabilities.{capability_number}
-use Rattle.aa_profile_tables.specs.Domains.{domain_number}
-use Rattle.aa_profile_tables.specs.Kinds.{kind_number}
-use Rattle.aa_profile_tables.specs.KnownNumbers.{is_kind}
+use Rattle.aa_text_tokens.specs.Splicing.{Placed}
+use Rattle.aa_profile_data.specs.Capabilities.{capability_number}
+use Rattle.aa_profile_data.specs.Domains.{domain_number}
+use Rattle.aa_profile_data.specs.Kinds.{kind_number}
+use Rattle.aa_profile_data.specs.KnownNumbers.{is_kind}
 use Rattle.aa_profile_parsing.specs.Parts.{Part, refused}
 use Rattle.aa_profile_parsing.specs.Tokens.{is_word, is_word_of, text_of}
 use Rattle.aa_profile_parsing.specs.declared.fault.GrammarRefusal.TheVariants.{BadCapability, BadNetwork, BadToken, LeftOut}

@@ -1,7 +1,7 @@
 -- What rules that are read have, where their parts give it to them.
 use Rattle.std.proofs.Common.{Bool, true, false, List, [], ◌∷◌, Result, Ok, Err}
 use Rattle.std.specs.Prelude.{IfOk, if◌then◌else◌, codes}
-use Rattle.aa_text_splicing.specs.Splicing.{Placed}
+use Rattle.aa_text_tokens.specs.Splicing.{Placed}
 use Rattle.aa_profile_parsing.specs.Parts.{Part, behind_comma, expected, followed, refused}
 use Rattle.aa_profile_parsing.specs.Tokens.{is_comma, is_pattern, is_word_of}
 use Rattle.aa_profile_parsing.specs.declared.fault.Fault.{Fault}

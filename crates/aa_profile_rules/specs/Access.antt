@@ -1,10 +1,10 @@
 -- The access of a file rule (apparmor.d(5), "File Permission Access Modes" and "Execute Rules"; docs/policy.md, "Rules").
 use Rattle.std.specs.Prelude.{ℕ, Bool, ◌&&◌, if◌then◌else◌, List, [], ◌∷◌, Option, None, Some, is_some, Result, Ok, Err}
-use Rattle.aa_profile_access.specs.Access.{APPEND, EXEC, LINK, LOCK, MAP, READ, WRITE, has, union}
-use Rattle.aa_profile_access.specs.WrittenAccess.{access_with, has_two_words, nothing_written}
-use Rattle.aa_profile_access.specs.declared.exec_word.ExecWord.TheVariants.{Inherit}
-use Rattle.aa_profile_access.specs.declared.written.WrittenAccess.{WrittenAccess}
-use Rattle.aa_text_splicing.specs.Splicing.{Placed}
+use Rattle.aa_profile_data.specs.Access.{APPEND, EXEC, LINK, LOCK, MAP, READ, WRITE, has, union}
+use Rattle.aa_profile_data.specs.WrittenAccess.{access_with, has_two_words, nothing_written}
+use Rattle.aa_profile_data.specs.declared.exec_word.ExecWord.TheVariants.{Inherit}
+use Rattle.aa_profile_data.specs.declared.written.WrittenAccess.{WrittenAccess}
+use Rattle.aa_text_tokens.specs.Splicing.{Placed}
 use Rattle.aa_profile_parsing.specs.Parts.{Part, refused}
 use Rattle.aa_profile_parsing.specs.Tokens.{is_word, text_of}
 use Rattle.aa_profile_parsing.specs.declared.fault.Fault.TheVariants.{RanOut}

@@ -1,8 +1,8 @@
 -- Rules on capabilities (apparmor.d(5), "Capability Rules"; docs/policy.md, "Rules"). The bit of each number tells whether a set has it.
 use Rattle.std.specs.Prelude.{ℕ, ◌^◌, ◌-◌, if◌then◌else◌, List, [], ◌∷◌, None, Some, Ok}
 use Rattle.std.specs.Int.RustNames.{bit_or}
-use Rattle.aa_profile_tables.specs.Capabilities.{capability_number}
-use Rattle.aa_text_splicing.specs.Splicing.{Placed}
+use Rattle.aa_profile_data.specs.Capabilities.{capability_number}
+use Rattle.aa_text_tokens.specs.Splicing.{Placed}
 use Rattle.aa_profile_parsing.specs.Parts.{Part, refused}
 use Rattle.aa_profile_parsing.specs.Tokens.{is_word, text_of}
 use Rattle.aa_profile_parsing.specs.declared.fault.GrammarRefusal.TheVariants.{BadCapability}

@@ -1,7 +1,7 @@
 -- Rules as language 3 has them (docs/policy.md, "Languages").
 use Rattle.std.specs.Prelude.{◌≡◌, IfSome, None, Option}
-use Rattle.aa_text_splicing.specs.Splicing.{Placed}
-use Rattle.aa_profile_access.specs.Stacks.{stack_of}
+use Rattle.aa_text_tokens.specs.Splicing.{Placed}
+use Rattle.aa_profile_data.specs.Stacks.{stack_of}
 use Rattle.aa_profile_parsing.specs.Tokens.{text_of}
 use Rattle.aa_profile_rules.specs.Rules.{All, Kept, OnCapabilities, OnFile, OnNetwork, Rule}
 

@@ -1,8 +1,8 @@
 -- Rules on sockets (apparmor.d(5), "Network Rules"; docs/policy.md, "Rules").
 use Rattle.std.specs.Prelude.{ℕ, Bool, not, ◌||◌, if◌then◌else◌, List, [], ◌∷◌, Option, None, Some, Ok}
-use Rattle.aa_profile_tables.specs.Domains.{domain_number, has_protocols}
-use Rattle.aa_profile_tables.specs.Kinds.{is_protocol, kind_number}
-use Rattle.aa_text_splicing.specs.Splicing.{Placed}
+use Rattle.aa_profile_data.specs.Domains.{domain_number, has_protocols}
+use Rattle.aa_profile_data.specs.Kinds.{is_protocol, kind_number}
+use Rattle.aa_text_tokens.specs.Splicing.{Placed}
 use Rattle.aa_profile_parsing.specs.Parts.{Part, refused}
 use Rattle.aa_profile_parsing.specs.Tokens.{is_word, text_of}
 use Rattle.aa_profile_parsing.specs.declared.fault.GrammarRefusal.TheVariants.{BadNetwork}

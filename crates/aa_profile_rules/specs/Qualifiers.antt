@@ -1,6 +1,6 @@
 -- The words before a rule that say how it counts (apparmor.d(5), "Qualifier Blocks" and "Access Modes"; docs/policy.md, "Rules").
 use Rattle.std.specs.Prelude.{true, false, ◌&&◌, if◌then◌else◌, List, [], ◌∷◌, Option, None, Some, Ok, codes}
-use Rattle.aa_text_splicing.specs.Splicing.{Placed}
+use Rattle.aa_text_tokens.specs.Splicing.{Placed}
 use Rattle.aa_profile_parsing.specs.Parts.{Part, refused}
 use Rattle.aa_profile_parsing.specs.Tokens.{is_word_of}
 use Rattle.aa_profile_parsing.specs.declared.fault.GrammarRefusal.TheVariants.{BadToken}

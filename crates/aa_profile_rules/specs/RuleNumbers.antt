@@ -1,6 +1,6 @@
 -- What is known of the numbers in rules (docs/policy.md, "Tables").
 use Rattle.std.specs.Prelude.{Bool, true, ◌&&◌}
-use Rattle.aa_profile_tables.specs.KnownNumbers.{are_capabilities, is_domain, is_kind}
+use Rattle.aa_profile_data.specs.KnownNumbers.{are_capabilities, is_domain, is_kind}
 use Rattle.aa_profile_rules.specs.Rules.{All, Kept, OnCapabilities, OnFile, OnNetwork, Rule}
 use Rattle.aa_profile_rules.specs.declared.networks.Sockets.{Sockets}
 

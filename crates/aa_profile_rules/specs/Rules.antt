@@ -1,6 +1,6 @@
 -- Rules as they are written (apparmor.d(5), "FILE"; docs/policy.md, "Rules").
 use Rattle.std.specs.Prelude.{ℕ, Bool, ◌&&◌, ◌||◌, if◌then◌else◌, List, [], ◌∷◌, Option, None, Ok, Err, codes}
-use Rattle.aa_text_splicing.specs.Splicing.{Placed}
+use Rattle.aa_text_tokens.specs.Splicing.{Placed}
 use Rattle.aa_bytes.specs.Texts.{begins_with}
 use Rattle.aa_profile_parsing.specs.Parts.{Part, behind_comma, expected, followed, refused}
 use Rattle.aa_profile_parsing.specs.Tokens.{is_comma, is_open_brace, is_pattern, is_word, is_word_of, text_of}

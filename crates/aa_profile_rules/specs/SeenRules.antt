@@ -1,6 +1,6 @@
 -- What the code's rules are as the definitions see them.
 use Rattle.std.specs.Option.{option_map}
-use Rattle.aa_text_splicing.specs.SeenTokens.{seen_spliced}
+use Rattle.aa_text_tokens.specs.SeenSplicedTokens.{seen_spliced}
 use Rattle.aa_profile_parsing.specs.SeenTokens.{seen_tokens}
 use Rattle.aa_profile_rules.specs.Rules.{All, OnCapabilities, OnFile, OnNetwork, Kept, Rule as SeenRule}
 use Rattle.aa_profile_rules.specs.declared.rules.Rule.{Rule}

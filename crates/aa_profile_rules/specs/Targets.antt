@@ -1,19 +1,19 @@
 -- Targets of file rules: what a rule names behind `->`, under which a program runs that it lets be started, or to which a hard link leads
 -- (apparmor.d(5), "Execute Rules" and "Link rules"; docs/policy.md, "Exec words").
 use Rattle.std.specs.Prelude.{ℕ, Bool, true, false, not, ◌&&◌, if◌then◌else◌, List, [], ◌∷◌, Option, None, Some, Ok, codes}
-use Rattle.aa_profile_access.specs.Access.{EXEC, LINK, has}
-use Rattle.aa_profile_access.specs.ExecWords.{row}
-use Rattle.aa_profile_access.specs.declared.exec_word.Destination.{Destination}
-use Rattle.aa_profile_access.specs.declared.exec_word.Destination.TheVariants as to
-use Rattle.aa_profile_access.specs.FullNames.{is_full_name}
-use Rattle.aa_profile_access.specs.Names.{is_top_name}
-use Rattle.aa_text_splicing.specs.Splicing.{Placed}
+use Rattle.aa_profile_data.specs.Access.{EXEC, LINK, has}
+use Rattle.aa_profile_data.specs.ExecWords.{row}
+use Rattle.aa_profile_data.specs.declared.exec_word.Destination.{Destination}
+use Rattle.aa_profile_data.specs.declared.exec_word.Destination.TheVariants as to
+use Rattle.aa_profile_data.specs.FullNames.{is_full_name}
+use Rattle.aa_profile_data.specs.Names.{is_top_name}
+use Rattle.aa_text_tokens.specs.Splicing.{Placed}
 use Rattle.aa_profile_parsing.specs.Parts.{Part, expected, followed, refused}
 use Rattle.aa_profile_parsing.specs.Tokens.{is_text, is_word_of, text_of}
 use Rattle.aa_profile_parsing.specs.declared.fault.GrammarRefusal.TheVariants.{BadName, TargetWithoutExec}
 use Rattle.aa_profile_parsing.specs.declared.language.Language.{Language}
 use Rattle.aa_profile_parsing.specs.declared.language.Language.TheVariants.{Four, Three}
-use Rattle.aa_profile_access.specs.Stacks.{is_name_or_stack_of}
+use Rattle.aa_profile_data.specs.Stacks.{is_name_or_stack_of}
 use Rattle.aa_profile_rules.specs.declared.access.Access.{Access}
 
 -- where an exec word leads may have a name: that of a profile, or of a child or a hat

@@ -4,10 +4,9 @@ ghost use Rattle.std.specs.Prelude.{◌≡◌, ◌<◌, Ok, Err, IfOk, IfErr, le
 ghost use Rattle.aa_profile_parsing.specs.Readings.{IsFault, IsRead};
 ghost use Rattle.aa_profile_rules.specs.Access.{access, access_of, is_misplaced, refusal_of_access, whole_access};
 
-use aa_profile_access::{ExecWord, Perms, WrittenAccess};
+use aa_profile_data::{ExecWord, Perms, WrittenAccess};
 use aa_profile_parsing::{Fault, GrammarRefusal, refusal_at};
-use aa_text_splicing::Spliced;
-use aa_text_tokens::TokenKind;
+use aa_text_tokens::{Spliced, TokenKind};
 use bitflags::Flags;
 
 /// What a file rule lets or denies.

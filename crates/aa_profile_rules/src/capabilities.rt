@@ -4,10 +4,9 @@ ghost use Rattle.std.specs.Prelude.{◌≡◌, ◌<◌, ◌≤◌, IfOk, IfErr, 
 ghost use Rattle.aa_profile_parsing.specs.Readings.{IsFault, IsRead};
 ghost use Rattle.aa_profile_rules.specs.Capabilities.{capabilities, named_capabilities, with_capability};
 
+use aa_profile_data::{capability_number, which_numbers_names_have};
 use aa_profile_parsing::{Fault, GrammarRefusal, refusal_at};
-use aa_profile_tables::{capability_number, which_numbers_names_have};
-use aa_text_splicing::Spliced;
-use aa_text_tokens::TokenKind;
+use aa_text_tokens::{Spliced, TokenKind};
 
 /// All capabilities: as many lowest bits as there are.
 pub const ALL_CAPABILITIES: u64 = (1 << 41) - 1;
@@ -43,7 +42,7 @@ fn read_names<'a>(tokens: &'a [Spliced<'a>]) -> Result<(u64, &'a [Spliced<'a>]),
 }
 
 /// The set of the capabilities that tokens begin with, all where they begin with none, and what stands behind it. The bit of each number
-/// of `aa_profile_tables` tells whether that capability is in the set.
+/// of `aa_profile_data` tells whether that capability is in the set.
 ///
 /// # Errors
 ///

@@ -1,15 +1,14 @@
 //! Rules that decide nothing here, and are kept and shown as they are written.
 
 ghost use Rattle.std.specs.Prelude.{◌≡◌, ◌≤◌, ◌<◌, Ok, IfOk, IfErr, length};
-ghost use Rattle.aa_text_splicing.specs.SeenTokens.{seen_spliced};
+ghost use Rattle.aa_text_tokens.specs.SeenSplicedTokens.{seen_spliced};
 ghost use Rattle.aa_profile_parsing.specs.Readings.{IsFault, IsRead};
 ghost use Rattle.aa_profile_parsing.specs.SeenTokens.{seen_tokens};
 ghost use Rattle.aa_profile_rules.specs.KeptRules.{begins_kept, count_of, kept, size_behind};
 ghost use Rattle.aa_profile_rules.specs.KeptRules.{is_among, is_kept_word, mount_words, other_words, process_words};
 
 use aa_profile_parsing::{Fault, GrammarRefusal, refusal_at};
-use aa_text_splicing::Spliced;
-use aa_text_tokens::TokenKind;
+use aa_text_tokens::{Spliced, TokenKind};
 
 /// Whether a token is a word that kept rules begin with.
 pub fn begins_kept(token: Spliced<'_>) -> bool

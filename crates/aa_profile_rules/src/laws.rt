@@ -6,10 +6,9 @@ ghost use Rattle.aa_profile_parsing.specs.declared.language.Language.TheVariants
 ghost use Rattle.aa_profile_rules.specs.NarrowRules.{IsNarrow};
 ghost use Rattle.aa_profile_rules.specs.RuleNumbers.{has_known_numbers};
 ghost use Rattle.aa_profile_rules.specs.Rules.{rule};
-ghost use Rattle.aa_text_splicing.specs.Splicing.{Placed};
+ghost use Rattle.aa_text_tokens.specs.Splicing.{Placed};
 
-use aa_profile_access::no_name_is_a_stack;
-use aa_profile_tables::which_numbers_names_have;
+use aa_profile_data::{no_name_is_a_stack, which_numbers_names_have};
 
 /// No rule that is read has a number outside of the tables: its capabilities have numbers below 41, its domain has one below 44, and its type or
 /// protocol one below 9.

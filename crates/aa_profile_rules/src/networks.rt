@@ -4,12 +4,11 @@ ghost use Rattle.std.specs.Prelude.{◌≡◌, ◌≤◌, IfOk, IfErr, length};
 ghost use Rattle.aa_profile_parsing.specs.Readings.{IsFault, IsRead};
 ghost use Rattle.aa_profile_rules.specs.Networks.{all_sockets, first_named, named_in, second_named, sockets, sockets_behind, stands_behind};
 
+use aa_profile_data::{domain_number, has_protocols, is_protocol, kind_number};
 use aa_profile_parsing::{Fault, GrammarRefusal, refusal_at};
-use aa_profile_tables::{domain_number, has_protocols, is_protocol, kind_number};
-use aa_text_splicing::Spliced;
-use aa_text_tokens::TokenKind;
+use aa_text_tokens::{Spliced, TokenKind};
 
-/// The sockets that a rule is about, by the numbers of `aa_profile_tables`.
+/// The sockets that a rule is about, by the numbers of `aa_profile_data`.
 #[derive(Clone, Copy)]
 pub struct Sockets {
     /// Their domain; none where the rule is about all.

@@ -1,12 +1,12 @@
 //! The words before a rule that say how it counts.
 
 ghost use Rattle.std.specs.Prelude.{◌≡◌, ◌≤◌, IfOk, IfErr, length};
-ghost use Rattle.aa_text_splicing.specs.SeenTokens.{seen_spliced};
+ghost use Rattle.aa_text_tokens.specs.SeenSplicedTokens.{seen_spliced};
 ghost use Rattle.aa_profile_parsing.specs.Readings.{IsFault, IsRead};
 ghost use Rattle.aa_profile_rules.specs.Qualifiers.{qualified_by, qualifiers, unqualified};
 
 use aa_profile_parsing::{Fault, GrammarRefusal, is_word_of, refusal_at};
-use aa_text_splicing::Spliced;
+use aa_text_tokens::Spliced;
 
 /// The words before a rule that say how it counts (apparmor.d(5)).
 #[derive(Clone, Copy)]

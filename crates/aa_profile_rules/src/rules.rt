@@ -1,7 +1,7 @@
 //! Rules as they are written.
 
 ghost use Rattle.std.specs.Prelude.{◌≡◌, ◌<◌, IfOk, IfErr, length};
-ghost use Rattle.aa_text_splicing.specs.SeenTokens.{seen_spliced};
+ghost use Rattle.aa_text_tokens.specs.SeenSplicedTokens.{seen_spliced};
 ghost use Rattle.aa_profile_parsing.specs.Readings.{IsFault, IsRead};
 ghost use Rattle.aa_profile_rules.specs.Rules.{access_first, all_files, file_rule, pattern_first, rule_behind_file, targeted_rule, whole_rule};
 ghost use Rattle.aa_profile_rules.specs.Rules.{all_rule, begins_unowned, capability_rule, common_rule, ended, is_left_out, kept_rule, left_out_words};
@@ -19,8 +19,7 @@ use aa_bytes::begins_with;
 use aa_profile_parsing::{
     Fault, GrammarRefusal, Language, is_pattern, is_word_of, read_comma, read_pattern, refusal_at,
 };
-use aa_text_splicing::Spliced;
-use aa_text_tokens::{Token, TokenKind};
+use aa_text_tokens::{Spliced, Token, TokenKind};
 
 /// A rule as it is written.
 #[derive(Clone, Copy)]
@@ -42,7 +41,7 @@ pub enum Rule<'a> {
         qualifiers: Qualifiers,
         /// The token of its word.
         word: Spliced<'a>,
-        /// The set of its capabilities: the bit of each number of `aa_profile_tables` tells whether that one is in it.
+        /// The set of its capabilities: the bit of each number of `aa_profile_data` tells whether that one is in it.
         capabilities: u64,
     },
     /// A rule on sockets.

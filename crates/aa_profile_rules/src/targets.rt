@@ -2,14 +2,14 @@
 
 ghost use Rattle.std.specs.Prelude.{◌≡◌, ◌≤◌, IfOk, IfErr, length};
 ghost use Rattle.std.specs.Option.{option_map};
-ghost use Rattle.aa_text_splicing.specs.SeenTokens.{seen_spliced};
+ghost use Rattle.aa_text_tokens.specs.SeenSplicedTokens.{seen_spliced};
 ghost use Rattle.aa_profile_parsing.specs.Readings.{IsFault, IsRead};
 ghost use Rattle.aa_profile_rules.specs.Targets.{is_name_of, is_nameable, is_target, named_target, names_what_is, takes_target, target};
 
 use crate::access::Access;
-use aa_profile_access::{Destination, Perms, is_full_name, is_name_or_stack_of, is_top_name};
+use aa_profile_data::{Destination, Perms, is_full_name, is_name_or_stack_of, is_top_name};
 use aa_profile_parsing::{Fault, GrammarRefusal, Language, is_word_of, read_text, refusal_at};
-use aa_text_splicing::Spliced;
+use aa_text_tokens::Spliced;
 use bitflags::Flags;
 
 // Whether where an exec word leads may have a name.

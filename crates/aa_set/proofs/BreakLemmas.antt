@@ -11,8 +11,8 @@ use Rattle.aa_set_manager.specs.Outcomes.{Outcome, line_outcome}
 use Rattle.aa_set_manager.specs.declared.reply.Reply.{Reply}
 use Rattle.aa_set.specs.code.Session.{Follows, IsAfter, IsCut, IsFrontOfWhole}
 use Rattle.aa_set.specs.declared.session.Session.{Session}
-use Rattle.aa_set_lines.specs.Lines.{is_line_feed, lines, whole_lines, without_empty_last, without_last}
-use Rattle.aa_set_lines.specs.Streams.{AppendsFront}
+use Rattle.aa_set_commands.specs.Lines.{is_line_feed, lines, whole_lines, without_empty_last, without_last}
+use Rattle.aa_set_commands.specs.Streams.{AppendsFront}
 use Rattle.aa_set.proofs.LinesLemmas.{first_piece, joined, joined-last, last_piece, split-append, without_empty_last-some, without_last-append, without_last-push}
 use Rattle.aa_set.proofs.RunLemmas.{flagged-unzipped, replies_to-append}
 use Rattle.aa_set.proofs.StreamLemmas.{Front-behind, Front-more, Front-same}

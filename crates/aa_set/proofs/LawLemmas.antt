@@ -10,18 +10,18 @@ use Rattle.aa_set_commands.specs.Refusal.{plain}
 use Rattle.aa_set_commands.specs.declared.refusal.Refusal.{Refusal}
 use Rattle.aa_set_commands.specs.declared.refusal.RefusalKind.TheVariants.{BadRequest, LineTooLong, Memory, NoMark, NothingToRedo, NothingToUndo}
 use Rattle.aa_set_answers.specs.Answers.{reply_lines, shown}
-use Rattle.aa_set_changes.specs.ChangeLaws.{ChangesKeepNamesApart}
-use Rattle.aa_set_changes.specs.Changes.{changed as change_of_set, parts_of}
-use Rattle.aa_decide_slots.specs.Named.{have_distinct_names}
-use Rattle.aa_set_lines.specs.Limits.{longest_line}
-use Rattle.aa_set_lines.specs.Lines.{lines}
+use Rattle.aa_set_manager.specs.ChangeLaws.{ChangesKeepNamesApart}
+use Rattle.aa_set_manager.specs.Changes.{changed as change_of_set, parts_of}
+use Rattle.aa_decide_ready.specs.Named.{have_distinct_names}
+use Rattle.aa_set_commands.specs.Limits.{longest_line}
+use Rattle.aa_set_commands.specs.Lines.{lines}
 use Rattle.aa_set_answers.specs.List.{list_lines}
 use Rattle.aa_set.specs.Laws.{GivesBack, NoneFlagged, NoneGoes, PiecesChangeNoReply, StepsAdd, StepsReturn, changes, goes, is_change}
 use Rattle.aa_set_manager.specs.Outcomes.{Outcome, answered, changed, command_in, command_outcome, line_outcome, obeyed, refused, takes_memory}
 use Rattle.aa_set_manager.specs.Manager.{AreDistinct, Managed, after_change, back_at, is_mark_name, marking, new_manager_in, next, redone, undone}
 use Rattle.aa_set.specs.Reply.{is_refusal}
 use Rattle.aa_set.specs.Run.{after_lines, flagged, replies_to}
-use Rattle.aa_decide_slots.specs.Entries.{Loaded}
+use Rattle.aa_decide_ready.specs.Entries.{Loaded}
 use Rattle.aa_set.proofs.StepLemmas.{line_marks}
 use Rattle.aa_set_manager.proofs.DistinctLemmas.{accepted-distinct, distinct-behind}
 use Rattle.aa_set_manager.specs.declared.reply.Reply.{Reply}

@@ -3,7 +3,7 @@ use Rattle.std.proofs.Common.{◌≡◌, ℕ, Bool, true, false, cond, List, [],
 use Rattle.std.specs.List.{list_any, onto_first, slice_split}
 use Rattle.std.proofs.lemmas.Bool.{or_parts, cond-true, cond-false}
 use Rattle.aa_bytes.specs.Texts.{is_empty}
-use Rattle.aa_set_lines.specs.Lines.{without_empty_last, without_last}
+use Rattle.aa_set_commands.specs.Lines.{without_empty_last, without_last}
 
 -- a text without separators is its one piece
 pub split-whole : (p : ℕ → Bool) (w : List ℕ) → list_any p w ≡ false → slice_split p w ≡ w ∷ []

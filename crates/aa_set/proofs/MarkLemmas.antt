@@ -3,14 +3,14 @@ use Rattle.std.proofs.Common.{◌≡◌, ℕ, Bool, true, false, cond, leb, ◌&
 use Rattle.std.proofs.lemmas.Bool.{cond-false, cond-true}
 use Rattle.std.specs.Map.{lookup}
 use Rattle.std.specs.Str.{bytes_eq}
-use Rattle.aa_decide_slots.specs.Entries.{Loaded}
+use Rattle.aa_decide_ready.specs.Entries.{Loaded}
 use Rattle.aa_history.specs.Machine.{Machine, MarksItsSets, all_sets, gone_to_mark, gone_where, is_marked, with_mark}
 use Rattle.aa_history.specs.MarkLaws.{MarkKeepsAll, MarkLeadsBack, MarkTwiceIsOnce, SparesThroughout, StartedMarksItsSets, StepsMarkTheirSets, run}
 use Rattle.aa_set_commands.specs.Command.{Ask, Back, Command, Listed, Make, Mark, Redo, Show, Undo}
 use Rattle.aa_set_commands.specs.Refusal.{plain}
 use Rattle.aa_set_commands.specs.declared.refusal.Refusal.{Refusal}
 use Rattle.aa_set_commands.specs.declared.refusal.RefusalKind.TheVariants.{BadRequest, LineTooLong, Memory, NoMark}
-use Rattle.aa_set_lines.specs.Limits.{longest_line}
+use Rattle.aa_set_commands.specs.Limits.{longest_line}
 use Rattle.aa_set.specs.Laws.{BackNeverFails, BackTwiceIsOnce, GivesBack, MarkGivesBack, MarkLeavesSets, SameMarksLeadToOne, marks}
 use Rattle.aa_set_manager.specs.Outcomes.{Outcome, changed, command_in, command_outcome, line_outcome, obeyed, refused, takes_memory}
 use Rattle.aa_set_manager.specs.Manager.{Managed, back_at, is_mark_name, marking, new_manager_in, next}

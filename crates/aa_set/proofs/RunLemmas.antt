@@ -8,14 +8,14 @@ use Rattle.std.proofs.lemmas.List.Sums.{sum_by-append}
 use Rattle.std.specs.Io.KnownBytes.{Appends}
 use Rattle.aa_bytes.specs.Texts.{is_empty}
 use Rattle.aa_set_manager.specs.Manager.{Managed}
-use Rattle.aa_set_lines.specs.Lines.{is_line_feed, lines, without_empty_last}
+use Rattle.aa_set_commands.specs.Lines.{is_line_feed, lines, without_empty_last}
 use Rattle.aa_set.specs.Reply.{reply_text, is_refusal, is_acceptance}
 use Rattle.aa_set.specs.Run.{replies_to, after_lines, flagged, replies, IsAnswered}
 use Rattle.aa_set_manager.specs.Outcomes.{Outcome, line_outcome}
 use Rattle.aa_set.specs.code.Session.{IsAfter, IsCut, Follows}
-use Rattle.aa_set_lines.specs.Streams.{WritesBehind}
+use Rattle.aa_set_commands.specs.Streams.{WritesBehind}
 use Rattle.aa_set_manager.specs.declared.reply.Reply.{Reply}
-use Rattle.aa_set_lines.specs.Limits.{longest_line}
+use Rattle.aa_set_commands.specs.Limits.{longest_line}
 use Rattle.aa_set.specs.declared.session.Session.{Session}
 use Rattle.aa_set.specs.declared.session.Summary.{Summary}
 use Rattle.aa_set.proofs.StreamLemmas.{WritesBehind-same, WritesBehind-trans, WritesBehind-flushed}

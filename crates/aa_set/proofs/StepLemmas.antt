@@ -1,16 +1,16 @@
 -- Lines as steps of the machine.
 use Rattle.std.proofs.Common.{◌≡◌, ℕ, Bool, true, false, cond, leb, ◌&&◌, List, [], ◌∷◌, ◌++◌, length, Option, None, Some, Result, Ok, Err, is_some, refl, sym, ap, ◌∙◌, subst}
-use Rattle.aa_decide_slots.specs.Entries.{Loaded}
+use Rattle.aa_decide_ready.specs.Entries.{Loaded}
 use Rattle.aa_history.specs.Machine.{Machine, MarksItsSets, can_go_back, can_go_on, gone_back, gone_on, gone_where, marked, with_mark}
 use Rattle.aa_history.specs.MarkLaws.{Accept, Mark as StepMark, Redo as StepOn, Return, SparesThroughout, StartedMarksItsSets, Step, StepsMarkTheirSets, Undo as StepBack, run, stepped}
 use Rattle.aa_set_answers.specs.Answers.{reply_lines, shown}
-use Rattle.aa_set_changes.specs.Changes.{changed as change_of_set, parts_of}
+use Rattle.aa_set_manager.specs.Changes.{changed as change_of_set, parts_of}
 use Rattle.aa_profile_parsing.specs.declared.language.Language.{Language}
 use Rattle.aa_set_commands.specs.Command.{Ask, Back, Command, Listed, Make, Mark, PolicyChange, Redo, Show, Undo}
 use Rattle.aa_set_commands.specs.Refusal.{plain}
 use Rattle.aa_set_commands.specs.declared.refusal.Refusal.{Refusal}
 use Rattle.aa_set_commands.specs.declared.refusal.RefusalKind.TheVariants.{BadRequest, LineTooLong, Memory, NoMark, NothingToRedo, NothingToUndo}
-use Rattle.aa_set_lines.specs.Limits.{longest_line}
+use Rattle.aa_set_commands.specs.Limits.{longest_line}
 use Rattle.aa_set.specs.Laws.{LeaveMark, MarkStands}
 use Rattle.aa_set_manager.specs.Outcomes.{Outcome, changed, command_in, command_outcome, line_outcome, obeyed, refused, takes_memory}
 use Rattle.aa_set_manager.specs.Manager.{Managed, after_change, back_at, is_mark_name, marking, new_manager_in, redone, undone}

@@ -4,7 +4,7 @@ use Rattle.std.proofs.KnownBytes.{Appends-nil, Appends-trans}
 use Rattle.std.specs.Io.KnownBytes.{Appends, Consumes, IsAtEnd}
 use Rattle.std.specs.Prelude.{OnErr, Result, Ok, Err, ◌∷◌, fold}
 use Rattle.std.proofs.Math.Dec.{eqb-suc-zero}
-use Rattle.aa_set_lines.specs.Streams.{AppendsFront, WritesBehind, comes_to_end}
+use Rattle.aa_set_commands.specs.Streams.{AppendsFront, WritesBehind, comes_to_end}
 
 -- no bytes were written
 pub WritesBehind-nil : (a : Option (List ℕ)) (waits : List ℕ) → WritesBehind a a waits waits []

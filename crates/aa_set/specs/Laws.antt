@@ -10,7 +10,7 @@ use Rattle.aa_set_manager.specs.Manager.{AreDistinct, Managed, back_at, new_mana
 use Rattle.aa_set.specs.Reply.{is_refusal}
 use Rattle.aa_set_manager.specs.declared.reply.Reply.{Reply}
 use Rattle.aa_set_manager.specs.declared.reply.Reply.TheVariants.{Done}
-use Rattle.aa_set_lines.specs.Limits.{longest_line}
+use Rattle.aa_set_commands.specs.Limits.{longest_line}
 use Rattle.aa_set.specs.Run.{after_lines, output, output_so_far, replies}
 use Rattle.aa_set_manager.specs.Outcomes.{command_in, line_outcome}
 

@@ -5,8 +5,8 @@ use Rattle.std.specs.Prelude.{Option, IfSome, ◌≡◌, ◌≤◌, count_by}
 use Rattle.std.specs.List.{flat_map}
 use Rattle.std.specs.Io.KnownBytes.{Appends, Consumes}
 use Rattle.aa_text_files.specs.Files.{File}
-use Rattle.aa_set_lines.specs.Lines.{lines, whole_lines}
-use Rattle.aa_set_lines.specs.Streams.{AppendsFront}
+use Rattle.aa_set_commands.specs.Lines.{lines, whole_lines}
+use Rattle.aa_set_commands.specs.Streams.{AppendsFront}
 use Rattle.aa_set_manager.specs.Manager.{Managed}
 use Rattle.aa_set_manager.specs.Outcomes.{line_outcome}
 use Rattle.aa_set_manager.specs.declared.reply.Reply.{Reply}

@@ -6,12 +6,12 @@ ghost use Rattle.aa_set.specs.Laws.{OtherLineLeavesAll, PiecesChangeNoReply, Ref
 ghost use Rattle.aa_set.specs.Laws.{SetsHaveDistinctNames, SoFarIsFront, StepsAdd, StepsReturn, UndoGivesBack};
 
 use aa_bytes::Sequence;
-use aa_decide_slots::Entry;
+use aa_decide_ready::Entry;
 use aa_history::{
     how_machines_go_back_and_on, marks_lead_back, what_going_to_marks_keeps, what_machines_keep,
     what_marks_mark, where_machines_go_back_to,
 };
-use aa_set_changes::what_changes_keep;
+use aa_set_manager::what_changes_keep;
 
 /// A refused line leaves the policy set, both lists of sets and the marks, and so does any line whose command neither changes nor goes back or on nor
 /// marks, as a question or a blank one. After lines of which none goes back or on, undoing as many changes as were accepted gives back the

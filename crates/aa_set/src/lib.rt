@@ -7,11 +7,11 @@ mod writing;
 
 pub use aa_history::Mark;
 pub use aa_profile::{GrammarRefusal, Language, ProfileRefusal};
-pub use aa_profile_access::Perms;
+pub use aa_profile_data::Perms;
 pub use aa_set_answers::Answered;
-pub use aa_set_changes::PolicySet;
-pub use aa_set_commands::{Question, Refusal, RefusalKind};
-pub use aa_set_lines::{Failed, FromRead, Sink, Source, ToWrite, comes_to_end};
-pub use aa_set_manager::{Manager, Reply, reply_to};
+pub use aa_set_commands::{
+    Failed, FromRead, Question, Refusal, RefusalKind, Sink, Source, ToWrite, comes_to_end,
+};
+pub use aa_set_manager::{Manager, PolicySet, Reply, reply_to};
 pub use laws::{pieces_change_no_reply, the_way_back, what_faults_leave, where_marks_lead};
 pub use session::{RunFault, Summary, run, run_in, run_with, run_with_in};

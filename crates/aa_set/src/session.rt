@@ -5,19 +5,19 @@ ghost use Rattle.std.specs.Prelude.{false, true, OnOk, OnErr, IfOk, IsErrOf, ◌
 ghost use Rattle.std.specs.List.{list_any};
 ghost use Rattle.std.specs.Io.{ReadsAtMost};
 ghost use Rattle.std.specs.Io.KnownBytes.{IsAtEnd, ReadConsumes};
-ghost use Rattle.aa_set_lines.specs.Lines.{is_line_feed};
+ghost use Rattle.aa_set_commands.specs.Lines.{is_line_feed};
 ghost use Rattle.aa_set.specs.Reply.{is_acceptance, is_refusal};
 ghost use Rattle.aa_set.specs.Limits.{most_reads};
 ghost use Rattle.aa_set_manager.specs.Manager.{new_manager, new_manager_in};
 ghost use Rattle.aa_set.specs.Run.{HasGiven, HoldsOfRead, IsAnsweredSoFar, IsFrontAnswered, IsLeftAnswered};
-ghost use Rattle.aa_set_lines.specs.Streams.{comes_to_end};
+ghost use Rattle.aa_set_commands.specs.Streams.{comes_to_end};
 ghost use Rattle.aa_set_answers.specs.Answers.{line_with};
 ghost use Rattle.aa_set.specs.code.Session.{AnswersLine, BreaksAfter, BreaksOff, BreaksOffEnd, BreaksOffLine, EndsInput};
 ghost use Rattle.aa_set.specs.code.Session.{EndsLine, Feeds, IsFresh, Serves, StopsAfter, counted, piece_size};
 
 use crate::writing::write_reply;
 use aa_profile_parsing::Language;
-use aa_set_lines::{Failed, LineBuffer, Sink, Source, first_line, flush};
+use aa_set_commands::{Failed, LineBuffer, Sink, Source, first_line, flush};
 use aa_set_manager::{Manager, Reply, reply_to};
 use aa_text_files::Files;
 use std::alloc::{AllocError, Global};

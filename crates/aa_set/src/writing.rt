@@ -3,13 +3,12 @@
 ghost use Rattle.std.specs.Prelude.{◌≡◌, ◌++◌, true, OnOk, OnErr};
 ghost use Rattle.std.specs.Fmt.{decimal};
 ghost use Rattle.aa_text_files.specs.Files.{name_at};
-ghost use Rattle.aa_set_lines.specs.Streams.{AppendsFront, WritesBehind};
+ghost use Rattle.aa_set_commands.specs.Streams.{AppendsFront, WritesBehind};
 ghost use Rattle.aa_set.specs.Reply.{place_text, refusal_text, reply_text};
 ghost use Rattle.aa_bytes.specs.Quoting.{hexadecimal, written_text};
 
 use aa_bytes::{are_shown, two_digits};
-use aa_set_commands::Refusal;
-use aa_set_lines::{Failed, Sink, write_behind};
+use aa_set_commands::{Failed, Refusal, Sink, write_behind};
 use aa_set_manager::Reply;
 use aa_text_files::{Files, Place};
 use itoa::Buffer;

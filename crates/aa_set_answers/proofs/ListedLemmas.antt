@@ -12,12 +12,12 @@ use Rattle.std.proofs.lemmas.Slice.Eq.{bytes_eq-Decides}
 use Rattle.aa_bytes.specs.Bytes.{ampersand, colon, slash}
 use Rattle.aa_bytes.specs.Texts.{begins, begins_with}
 use Rattle.aa_decide.specs.Exec.{Asker, entry_asker, named_asker}
-use Rattle.aa_decide_slots.specs.Named.{entry_named, have_distinct_names, profiles_of}
-use Rattle.aa_decide_slots.specs.Entries.{Loaded}
+use Rattle.aa_decide_ready.specs.Named.{entry_named, have_distinct_names, profiles_of}
+use Rattle.aa_decide_ready.specs.Entries.{Loaded}
 use Rattle.aa_profile_data.specs.Profile.{are_distinct, are_distinct_children, child_place, is_child_named, is_named as is_profile_named}
 use Rattle.aa_profile_data.specs.declared.profile.Child.{Child}
-use Rattle.aa_profile_access.specs.FullNames.{FullName, full_name}
-use Rattle.aa_profile_access.specs.Names.{is_name, is_name_byte, is_top_name, slashes_are_within}
+use Rattle.aa_profile_data.specs.FullNames.{FullName, full_name}
+use Rattle.aa_profile_data.specs.Names.{is_name, is_name_byte, is_top_name, slashes_are_within}
 use Rattle.aa_set_answers.specs.ProfileNames.{behind_profile, full_name_at}
 use Rattle.aa_set_answers.specs.Askers.{asker}
 use Rattle.aa_set_answers.specs.Laws.{HasFileNames, ListedNamesLeadBack, StandsAt}

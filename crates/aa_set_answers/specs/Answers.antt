@@ -2,22 +2,22 @@
 use Rattle.std.specs.Prelude.{ℕ, Bool, if◌then◌else◌, List, [], ◌∷◌, ◌++◌, Option, None, Some, Result, Ok, Err, codes, is_none}
 use Rattle.std.specs.Option.{option_map}
 use Rattle.aa_bytes.specs.Bytes.{line_feed}
-use Rattle.aa_profile_access.specs.Request.{Request}
+use Rattle.aa_profile_data.specs.Request.{Request}
 use Rattle.aa_set_commands.specs.Question.{OfAccess, OfExec, Question}
 use Rattle.aa_set_commands.specs.Refusal.{plain}
 use Rattle.aa_set_commands.specs.declared.refusal.Refusal.{Refusal}
 use Rattle.aa_set_commands.specs.declared.refusal.RefusalKind.TheVariants.{Absent}
-use Rattle.aa_decide_audit.specs.Answer.{answer_word}
-use Rattle.aa_decide_slots.specs.Confinement.{By, ByName, Confinement, Unconfined}
-use Rattle.aa_decide_slots.specs.Entries.{Loaded}
+use Rattle.aa_decide_rules.specs.Answer.{answer_word}
+use Rattle.aa_decide_ready.specs.Confinement.{By, ByName, Confinement, Unconfined}
+use Rattle.aa_decide_ready.specs.Entries.{Loaded}
 use Rattle.aa_decide.specs.Exec.{Asker, Base, ExecAnswer, Nowhere, Null, OnProfile, OnUnconfined, Stacked, Started, Unconfined as Free, Under, exec_answer, named_asker}
-use Rattle.aa_decide_audit.specs.LogLines.{exec_line, log_line}
+use Rattle.aa_decide_rules.specs.LogLines.{exec_line, log_line}
 use Rattle.aa_decide_ready.specs.Sections.{decided_by}
-use Rattle.aa_decide_audit.specs.declared.verdict.Answer.{Answer}
-use Rattle.aa_decide_audit.specs.declared.verdict.Verdict.{Verdict}
+use Rattle.aa_decide_rules.specs.declared.verdict.Answer.{Answer}
+use Rattle.aa_decide_rules.specs.declared.verdict.Verdict.{Verdict}
 use Rattle.aa_profile_data.specs.declared.profile.Profile.{Profile}
 use Rattle.aa_bytes.specs.Quoting.{written_text}
-use Rattle.aa_profile_access.specs.FullNames.{full_name}
+use Rattle.aa_profile_data.specs.FullNames.{full_name}
 use Rattle.aa_set_answers.specs.ProfileNames.{full_name_at}
 use Rattle.aa_set_answers.specs.declared.answers.Answered.{Answered}
 use Rattle.aa_set_answers.specs.Show.{show_lines}

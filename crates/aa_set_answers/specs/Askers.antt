@@ -2,10 +2,10 @@
 use Rattle.std.specs.Prelude.{ℕ, if◌then◌else◌, List, Option, None, Some, codes}
 use Rattle.std.specs.Option.{option_map}
 use Rattle.std.specs.Str.{bytes_eq}
-use Rattle.aa_decide_slots.specs.Confinement.{Confinement, Unconfined, in_state}
-use Rattle.aa_decide_slots.specs.Entries.{Loaded}
+use Rattle.aa_decide_ready.specs.Confinement.{Confinement, Unconfined, in_state}
+use Rattle.aa_decide_ready.specs.Entries.{Loaded}
 use Rattle.aa_decide.specs.Exec.{Asker, named_asker}
-use Rattle.aa_profile_access.specs.FullNames.{full_name}
+use Rattle.aa_profile_data.specs.FullNames.{full_name}
 
 -- Who asks, if it is there: no one in particular, where it is the word `unconfined`, and else what its full name says.
 abbrev pub asker : List Loaded → List ℕ → Option (Option Asker)

@@ -2,13 +2,13 @@
 use Rattle.std.specs.Prelude.{◌≡◌, ℕ, true, List, Option, None, Some, slice_get}
 use Rattle.std.specs.List.{Contains}
 use Rattle.aa_decide.specs.Exec.{Asker, named_asker}
-use Rattle.aa_decide_slots.specs.Named.{have_distinct_names}
-use Rattle.aa_decide_slots.specs.Entries.{Loaded}
+use Rattle.aa_decide_ready.specs.Named.{have_distinct_names}
+use Rattle.aa_decide_ready.specs.Entries.{Loaded}
 use Rattle.aa_profile_data.specs.Profile.{are_distinct_children}
 use Rattle.aa_profile_data.specs.declared.profile.Child.{Child}
 use Rattle.aa_profile_data.specs.declared.profile.Profile.{Profile}
-use Rattle.aa_profile_access.specs.FullNames.{full_name}
-use Rattle.aa_profile_access.specs.Names.{is_top_name}
+use Rattle.aa_profile_data.specs.FullNames.{full_name}
+use Rattle.aa_profile_data.specs.Names.{is_top_name}
 use Rattle.aa_set_answers.specs.ProfileNames.{full_name_at}
 use Rattle.aa_set_answers.specs.Askers.{asker}
 

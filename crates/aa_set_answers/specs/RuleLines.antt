@@ -1,8 +1,8 @@
 -- The lines that show rules (docs/commands.md, "What is loaded"). What is written before a rule is told behind its first word: that it is
 -- audited, that it denies, that it is about the owner's files alone, and that it is the last to say where a program goes.
 use Rattle.std.specs.Prelude.{ℕ, Bool, false, ◌+◌, ◌-◌, ◌^◌, ◌==◌, if◌then◌else◌, List, [], ◌∷◌, ◌++◌, Option, None, Some, bit_and, codes}
-use Rattle.aa_profile_access.specs.Access.{letters_of}
-use Rattle.aa_profile_access.specs.ExecWords.{row}
+use Rattle.aa_profile_data.specs.Access.{letters_of}
+use Rattle.aa_profile_data.specs.ExecWords.{row}
 use Rattle.aa_bytes.specs.Bytes.{line_feed}
 use Rattle.aa_profile_data.specs.Cover.{has_number}
 use Rattle.aa_profile_data.specs.Ranks.{same_rank}
@@ -14,11 +14,11 @@ use Rattle.aa_profile_data.specs.declared.profile.Rank.TheVariants.{Last}
 use Rattle.aa_profile_data.specs.declared.profile.Rule.{Rule}
 use Rattle.aa_profile_data.specs.declared.profile.Rule.TheVariants.{Cap, File, Net, Other}
 use Rattle.aa_profile_data.specs.declared.profile.Transition.{Transition}
-use Rattle.aa_profile_tables.specs.Capabilities.{names}
-use Rattle.aa_profile_tables.specs.Domains.{domain_name}
-use Rattle.aa_profile_tables.specs.Kinds.{kind_name}
+use Rattle.aa_profile_data.specs.Capabilities.{names}
+use Rattle.aa_profile_data.specs.Domains.{domain_name}
+use Rattle.aa_profile_data.specs.Kinds.{kind_name}
 use Rattle.aa_bytes.specs.Quoting.{written_text}
-use Rattle.aa_profile_tables.specs.Names.{name_or_none}
+use Rattle.aa_profile_data.specs.TableNames.{name_or_none}
 
 -- a text, where something holds
 abbrev pub text_if : Bool → List ℕ → List ℕ

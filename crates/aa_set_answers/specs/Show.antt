@@ -4,7 +4,7 @@ use Rattle.aa_bytes.specs.Bytes.{line_feed}
 use Rattle.aa_profile_data.specs.declared.profile.Child.{Child}
 use Rattle.aa_profile_data.specs.declared.profile.Rule.{Rule}
 use Rattle.aa_bytes.specs.Quoting.{written_text}
-use Rattle.aa_decide_slots.specs.Entries.{Loaded}
+use Rattle.aa_decide_ready.specs.Entries.{Loaded}
 use Rattle.aa_set_answers.specs.Children.{lines_of_children}
 use Rattle.aa_set_answers.specs.RuleLines.{rule_line, text_if}
 use Rattle.aa_set_answers.specs.States.{written_state}

@@ -4,14 +4,14 @@ ghost use Rattle.std.specs.Prelude.{◌≡◌, ◌++◌, [], codes, None, Some, 
 ghost use Rattle.aa_set_commands.specs.Question.{OfAccess, OfExec};
 ghost use Rattle.aa_set_commands.specs.Refusal.{IsRefusalOf, plain};
 ghost use Rattle.aa_set_commands.specs.declared.refusal.RefusalKind.TheVariants.{Memory};
-ghost use Rattle.aa_decide_slots.specs.Slots.{filled};
-ghost use Rattle.aa_decide_slots.specs.Confinement.{found};
-ghost use Rattle.aa_profile_access.specs.SeenRequests.{request_of};
-ghost use Rattle.aa_decide_audit.specs.LogLines.{exec_line};
+ghost use Rattle.aa_decide_ready.specs.Slots.{filled};
+ghost use Rattle.aa_decide_ready.specs.Confinement.{found};
+ghost use Rattle.aa_profile_data.specs.SeenRequests.{request_of};
+ghost use Rattle.aa_decide_rules.specs.LogLines.{exec_line};
 ghost use Rattle.aa_set_answers.specs.Answers.{answered, asks_absent, confined_told, lines_of, told_verdict};
 ghost use Rattle.aa_set_answers.specs.Answers.{scrub_text, shown, shows_absent, stack_text, unconfined_text, under_text};
 ghost use Rattle.aa_set_answers.specs.code.SeenTexts.{seen_stack_text, seen_text};
-ghost use Rattle.aa_profile_access.specs.Stacks.{parts_of};
+ghost use Rattle.aa_profile_data.specs.Stacks.{parts_of};
 ghost use Rattle.std.specs.Option.{option_copied};
 
 use crate::asker::{confinement, find_asker};

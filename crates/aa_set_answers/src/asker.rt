@@ -3,8 +3,8 @@
 ghost use Rattle.std.specs.Prelude.{◌≡◌, IfSome};
 ghost use Rattle.std.specs.Option.{option_map};
 ghost use Rattle.aa_decide.specs.SeenExec.{IsIn, seen_asker};
-ghost use Rattle.aa_decide_slots.specs.Slots.{filled};
-ghost use Rattle.aa_decide_slots.specs.Confinement.{found};
+ghost use Rattle.aa_decide_ready.specs.Slots.{filled};
+ghost use Rattle.aa_decide_ready.specs.Confinement.{found};
 ghost use Rattle.aa_set_answers.specs.Askers.{asker, confinement};
 
 use aa_decide::{Asker, Confinement, IndexedSlots, find_loaded};

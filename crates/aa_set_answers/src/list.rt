@@ -2,14 +2,14 @@
 
 ghost use Rattle.std.specs.Prelude.{◌≡◌, ◌≤◌, ◌^◌, [], ◌∷◌, ◌++◌, IfOk, OnOk, codes, flat_map};
 ghost use Rattle.std.specs.Fmt.{decimal};
-ghost use Rattle.aa_decide_slots.specs.Slots.{filled};
+ghost use Rattle.aa_decide_ready.specs.Slots.{filled};
 ghost use Rattle.aa_bytes.specs.Bytes.{line_feed};
 ghost use Rattle.aa_set_answers.specs.Children.{lines_of_children};
 ghost use Rattle.aa_set_answers.specs.List.{count, entry_lines, list_lines, listed_child};
 ghost use Rattle.aa_set_answers.specs.States.{written_state};
 
 use crate::states::push_state;
-use aa_decide_slots::Entry;
+use aa_decide_ready::Entry;
 use aa_profile_data::Child;
 use itoa::Buffer;
 use std::alloc::{AllocError, Global};

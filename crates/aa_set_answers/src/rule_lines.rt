@@ -7,12 +7,14 @@ ghost use Rattle.aa_set_answers.specs.RuleLines.{file_qualifiers, file_text};
 ghost use Rattle.aa_set_answers.specs.RuleLines.{has_all, kind_word, names_from, network_text, other_text, qualifiers, rule_line};
 ghost use Rattle.aa_set_answers.specs.RuleLines.{rule_text, target_text, text_if};
 ghost use Rattle.aa_bytes.specs.Quoting.{written_text};
-ghost use Rattle.aa_profile_tables.specs.Names.{name_or_none};
+ghost use Rattle.aa_profile_data.specs.TableNames.{name_or_none};
 
 use aa_bytes::{SharedBytes, push_text};
 use aa_glob_pattern::Pattern;
-use aa_profile_data::{CapRule, FileRule, NetRule, OtherRule, Rank, Rule, Transition};
-use aa_profile_tables::{CAPABILITIES, domain_name, kind_name, which_names_tables_hold};
+use aa_profile_data::{
+    CAPABILITIES, CapRule, FileRule, NetRule, OtherRule, Rank, Rule, Transition, domain_name,
+    kind_name, which_names_tables_hold,
+};
 use std::alloc::AllocError;
 
 // The set of all capabilities.

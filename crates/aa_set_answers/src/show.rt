@@ -10,7 +10,7 @@ ghost use Rattle.aa_set_answers.specs.Show.{head_line, own_lines, show_lines};
 use crate::rule_lines::{push_if, push_rule_line};
 use crate::states::push_state;
 use aa_bytes::push_text;
-use aa_decide_slots::Entry;
+use aa_decide_ready::Entry;
 use aa_glob_pattern::Pattern;
 use aa_profile_data::{Child, Rule};
 use std::alloc::{AllocError, Global};

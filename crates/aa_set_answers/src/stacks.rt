@@ -3,11 +3,11 @@
 ghost use Rattle.std.specs.Prelude.{◌≡◌, ◌++◌, IfOk, OnOk, flat_map};
 ghost use Rattle.std.specs.List.{fold};
 ghost use Rattle.std.specs.Option.{option_copied};
-ghost use Rattle.aa_profile_access.specs.Stacks.{parts_of};
+ghost use Rattle.aa_profile_data.specs.Stacks.{parts_of};
 ghost use Rattle.aa_set_answers.specs.StackNames.{behind_another, joined, put_name, stack_name};
 ghost use Rattle.aa_set_answers.specs.code.SeenNames.{seen_names};
 
-use aa_profile_access::first_member;
+use aa_profile_data::first_member;
 use std::alloc::{AllocError, Global};
 use std::collections::BTreeSet;
 

@@ -6,7 +6,7 @@ ghost use Rattle.aa_set_answers.specs.States.{mode_word, state_word, written_sta
 use crate::names::full_name;
 use aa_bytes::push_text;
 use aa_decide::Mediation;
-use aa_decide_slots::{Confinement, Entry};
+use aa_decide_ready::{Confinement, Entry};
 use aa_profile_data::Mode;
 use std::alloc::{AllocError, Global};
 

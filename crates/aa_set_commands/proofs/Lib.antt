@@ -1,1 +1,4 @@
+pub mod LineLemmas
 pub mod QuestionLemmas
+pub mod StreamLemmas
+pub mod WordLemmas

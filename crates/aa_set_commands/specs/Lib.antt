@@ -1,3 +1,9 @@
 pub mod Command
+pub mod Limits
+pub mod Lines
 pub mod Question
 pub mod Refusal
+pub mod Streams
+pub mod WordLaws
+pub mod Words
+pub mod code

@@ -4,11 +4,11 @@ use Rattle.std.specs.Prelude.{None, Some, Result, Ok, Err, codes, option_and_the
 use Rattle.std.specs.Str.{bytes_eq}
 use Rattle.aa_bytes.specs.Bytes.{slash}
 use Rattle.aa_bytes.specs.Texts.{begins_with_byte, has_byte}
-use Rattle.aa_profile_access.specs.Access.{asked_letters, needs_of}
-use Rattle.aa_profile_access.specs.Request.{Request, ForCapability, ForFile, ForSockets}
-use Rattle.aa_profile_tables.specs.Capabilities.{capability_number}
-use Rattle.aa_profile_tables.specs.Domains.{domain_number}
-use Rattle.aa_profile_tables.specs.Kinds.{is_protocol, kind_number}
+use Rattle.aa_profile_data.specs.Access.{asked_letters, needs_of}
+use Rattle.aa_profile_data.specs.Request.{Request, ForCapability, ForFile, ForSockets}
+use Rattle.aa_profile_data.specs.Capabilities.{capability_number}
+use Rattle.aa_profile_data.specs.Domains.{domain_number}
+use Rattle.aa_profile_data.specs.Kinds.{is_protocol, kind_number}
 use Rattle.aa_set_commands.specs.Refusal.{plain}
 use Rattle.aa_set_commands.specs.declared.question.Question.{Question as CodeQuestion}
 use Rattle.aa_set_commands.specs.declared.question.Question.TheVariants.{Cap, Exec, File, Net}

@@ -1,9 +1,9 @@
 -- The refusals: each one's number and name, as replies tell them (docs/commands.md). Those of a file stand in the tables of the layers below.
 use Rattle.std.specs.Prelude.{◌≡◌, ◌≢◌, ℕ, List, codes, None, Result, Err}
-use Rattle.aa_profile_errors.specs.ProfileError.{described as described_file}
-use Rattle.aa_profile_errors.specs.declared.profile_error.ProfileError.{ProfileError}
-use Rattle.aa_profile_errors.specs.declared.profile_error.ProfileRefusal.{ProfileRefusal}
-use Rattle.aa_profile_errors.specs.declared.profile_error.ProfileRefusal.TheVariants as profile
+use Rattle.aa_profile_parsing.specs.ProfileError.{described as described_file}
+use Rattle.aa_profile_parsing.specs.declared.profile_error.ProfileError.{ProfileError}
+use Rattle.aa_profile_parsing.specs.declared.profile_error.ProfileRefusal.{ProfileRefusal}
+use Rattle.aa_profile_parsing.specs.declared.profile_error.ProfileRefusal.TheVariants as profile
 use Rattle.aa_set_commands.specs.declared.refusal.Refusal.{Refusal}
 use Rattle.aa_set_commands.specs.declared.refusal.RefusalKind.{RefusalKind}
 use Rattle.aa_set_commands.specs.declared.refusal.RefusalKind.TheVariants.{File, Exists, Absent, Disabled, NothingToUndo, NothingToRedo, BadCommand, LineTooLong, BadRequest, NoMark, Memory}

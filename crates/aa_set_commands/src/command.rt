@@ -6,11 +6,11 @@ ghost use Rattle.std.specs.Option.{option_map};
 ghost use Rattle.aa_bytes.specs.Bytes.{is_digit};
 ghost use Rattle.aa_set_commands.specs.Command.{AsksWell, Listed, change_of, change_command, count_of, is_count, line_command, seen_change};
 ghost use Rattle.aa_set_commands.specs.Command.{most_digits, no_word, number_of_digits, command_of, seen_command, the_word};
-ghost use Rattle.aa_set_lines.specs.Words.{words_of};
+ghost use Rattle.aa_set_commands.specs.Words.{words_of};
 
 use crate::question::Question;
 use crate::refusal::{Refusal, RefusalKind, plain};
-use aa_set_lines::Words;
+use crate::words::Words;
 
 // The most digits of a number, so few that it fits.
 const MOST_DIGITS: usize = 9;

@@ -2,17 +2,16 @@
 
 ghost use Rattle.std.specs.Prelude.{◌≡◌, ◌==◌, ◌<◌, [], ◌∷◌, Ok, Err, IfOk, IfErr, IfSome, map, codes};
 ghost use Rattle.std.specs.Str.{bytes_eq};
-ghost use Rattle.aa_profile_access.specs.Access.{needs_of};
+ghost use Rattle.aa_profile_data.specs.Access.{needs_of};
 ghost use Rattle.aa_set_commands.specs.Question.{seen_question, capability_question, exec_question, file_question, is_path, owned_of};
 ghost use Rattle.aa_set_commands.specs.Question.{question_of, socket_question, type_number, IsWellFormed};
-ghost use Rattle.aa_profile_tables.specs.Capabilities.{capability_number};
-ghost use Rattle.aa_profile_tables.specs.Domains.{domain_number};
+ghost use Rattle.aa_profile_data.specs.Capabilities.{capability_number};
+ghost use Rattle.aa_profile_data.specs.Domains.{domain_number};
 
 use crate::refusal::{Refusal, RefusalKind, plain};
 use aa_bytes::{begins_with_byte, has_byte};
-use aa_profile_access::Perms;
-use aa_profile_tables::{
-    capability_number, domain_number, is_protocol, kind_number, which_numbers_names_have,
+use aa_profile_data::{
+    Perms, capability_number, domain_number, is_protocol, kind_number, which_numbers_names_have,
 };
 
 /// A question to a policy set.

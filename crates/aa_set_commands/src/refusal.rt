@@ -4,7 +4,7 @@ ghost use Rattle.std.specs.Prelude.{◌≡◌};
 ghost use Rattle.aa_set_commands.specs.Refusal.{name_of, number_of, plain, refusal_of_profile};
 ghost use Rattle.aa_set_commands.specs.declared.refusal.RefusalKind.TheVariants.{Memory};
 
-use aa_profile_errors::{ProfileError, ProfileRefusal};
+use aa_profile_parsing::{ProfileError, ProfileRefusal};
 use aa_text_files::{Place, write_error};
 use std::alloc::{AllocError, AllocFailed};
 use std::error::Error;

@@ -1,7 +1,7 @@
 -- Policy sets of which each has distinct names.
 use Rattle.std.proofs.Common.{◌≡◌, true, List, [], ◌∷◌, ◌++◌}
-use Rattle.aa_decide_slots.specs.Entries.{Loaded}
-use Rattle.aa_decide_slots.specs.Named.{have_distinct_names}
+use Rattle.aa_decide_ready.specs.Entries.{Loaded}
+use Rattle.aa_decide_ready.specs.Named.{have_distinct_names}
 use Rattle.aa_history.specs.Machine.{Machine, accepted, all_sets}
 use Rattle.aa_set_manager.specs.Manager.{AreDistinct}
 

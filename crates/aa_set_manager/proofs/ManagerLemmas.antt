@@ -1,18 +1,18 @@
 -- The manager as it stands for its machine over whole policy sets.
 use Rattle.std.proofs.Common.{◌≡◌, not, ℕ, Bool, true, false, cond, List, [], ◌∷◌, ◌++◌, length, take, map, Option, None, Some, Result, Ok, Err, IfOk, IfErr, OnOk, OnErr, refl, sym, ap, subst, ◌∙◌}
 use Rattle.std.proofs.lemmas.List.{length-map, map_push}
-use Rattle.aa_decide_slots.specs.Named.{entry_named, have_distinct_names}
-use Rattle.aa_decide_slots.specs.Entries.{Loaded, is_in_force}
-use Rattle.aa_decide_slots.specs.Slots.{filled}
+use Rattle.aa_decide_ready.specs.Named.{entry_named, have_distinct_names}
+use Rattle.aa_decide_ready.specs.Entries.{Loaded, is_in_force}
+use Rattle.aa_decide_ready.specs.Slots.{filled}
 use Rattle.aa_history.specs.Machine.{Kept, Machine, accepted, all_sets, can_go_back, can_go_on, committed, gone_back, gone_on, gone_to_mark, is_marked, mapped, up_to, with_mark}
 use Rattle.aa_history.specs.MachineLaws.{AllSetsAreMapped, BackIsMapped, BackKeepsSets, CanBackIsMapped, CanOnIsMapped, OnIsMapped, OnKeepsSets}
 use Rattle.aa_history.specs.MarkLaws.{MarkIsMapped, ToMarkIsMapped}
 use Rattle.aa_profile_parsing.specs.declared.language.Language.{Language}
-use Rattle.aa_set_changes.specs.declared.settings.Settings.{Settings}
+use Rattle.aa_set_manager.specs.declared.settings.Settings.{Settings}
 use Rattle.aa_profile.specs.FileReading.{file_profiles_in}
 use Rattle.aa_text_files.specs.Files.{File}
 use Rattle.aa_profile_data.specs.declared.profile.Profile.{Profile}
-use Rattle.aa_set_changes.specs.Changes.{by_file, disabled, in_force, is_disabled, is_loaded, profile_count, put, with_added, with_disabled, with_mode, with_replaced}
+use Rattle.aa_set_manager.specs.Changes.{by_file, disabled, in_force, is_disabled, is_loaded, profile_count, put, with_added, with_disabled, with_mode, with_replaced}
 use Rattle.aa_profile_data.specs.declared.profile.Mode.{Mode}
 use Rattle.std.specs.Prelude.{is_none}
 use Rattle.aa_set_manager.specs.code.Making.{Makes}

@@ -1,10 +1,10 @@
 -- What a command that takes memory is answered.
 use Rattle.std.proofs.Common.{◌≡◌, ◌≢◌, ◌⊎◌, ℕ, Bool, true, false, not, ◌&&◌, List, Option, None, Some, Result, Ok, Err, refl, sym, ap, ◌∙◌, inl, inr}
 use Rattle.std.specs.Result.{IfOk, IfErr, OnOk, OnErr, MatchResult}
-use Rattle.aa_set_changes.specs.Changes.{change_takes_memory, is_disabled, is_loaded}
+use Rattle.aa_set_manager.specs.Changes.{change_takes_memory, is_disabled, is_loaded}
 use Rattle.aa_set_commands.specs.Command.{Command, Make, Mark, PolicyChange}
 use Rattle.aa_set_manager.specs.Manager.{Managed, is_mark_name, made, marking}
-use Rattle.aa_decide_slots.specs.Entries.{Loaded}
+use Rattle.aa_decide_ready.specs.Entries.{Loaded}
 use Rattle.aa_set_commands.specs.Refusal.{IsRefusalOf, plain}
 use Rattle.aa_set_manager.specs.Outcomes.{answered, changed, obeyed, obeyed_flagged, takes_memory}
 use Rattle.aa_text_files.specs.Files.{File}

@@ -1,3 +1,5 @@
+pub mod ChangeLaws
+pub mod Changes
 pub mod Limits
 pub mod Manager
 pub mod Outcomes

@@ -5,16 +5,16 @@ use Rattle.aa_history.specs.Machine.{Kept, Machine, begun, can_go_back, can_go_o
 use Rattle.aa_profile.specs.FileReading.{file_profiles_in}
 use Rattle.aa_profile_data.specs.declared.profile.Mode.{Mode}
 use Rattle.aa_profile_data.specs.declared.profile.Profile.{Profile}
-use Rattle.aa_decide_slots.specs.Entries.{Loaded}
-use Rattle.aa_decide_slots.specs.Named.{have_distinct_names}
+use Rattle.aa_decide_ready.specs.Entries.{Loaded}
+use Rattle.aa_decide_ready.specs.Named.{have_distinct_names}
 use Rattle.aa_set_commands.specs.Command.{PolicyChange}
 use Rattle.aa_set_commands.specs.Refusal.{plain}
 use Rattle.aa_set_commands.specs.declared.refusal.Refusal.{Refusal}
 use Rattle.aa_set_commands.specs.declared.refusal.RefusalKind.TheVariants.{BadRequest, NoMark, NothingToRedo, NothingToUndo}
 use Rattle.aa_profile_parsing.specs.declared.language.Language.{Language}
 use Rattle.aa_profile_parsing.specs.declared.language.Language.TheVariants.{Three}
-use Rattle.aa_set_changes.specs.declared.settings.Settings.{Settings}
-use Rattle.aa_set_changes.specs.Changes.{changed, parts_of, with_added, with_disabled, with_mode, with_replaced}
+use Rattle.aa_set_manager.specs.declared.settings.Settings.{Settings}
+use Rattle.aa_set_manager.specs.Changes.{changed, parts_of, with_added, with_disabled, with_mode, with_replaced}
 use Rattle.aa_set_manager.specs.Limits.{longest_mark}
 
 -- A manager, as contracts see it: how profiles are read and loaded, the machine, and how many parts each change has that leads from one of its

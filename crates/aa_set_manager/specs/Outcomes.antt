@@ -1,13 +1,13 @@
 -- What a line is answered, and the manager after it, by the machine that keeps whole policy sets (docs/commands.md).
 use Rattle.std.specs.Prelude.{ℕ, Bool, true, false, ◌&&◌, not, nat_le, if◌then◌else◌, List, length, Option, None, Some, Result, Ok, Err}
 use Rattle.aa_text_files.specs.Files.{File}
-use Rattle.aa_set_lines.specs.Limits.{longest_line}
-use Rattle.aa_set_lines.specs.Words.{words_of}
+use Rattle.aa_set_commands.specs.Limits.{longest_line}
+use Rattle.aa_set_commands.specs.Words.{words_of}
 use Rattle.aa_set_commands.specs.Command.{Command, Make, Undo, Redo, Mark, Back, Ask, Listed, Show, line_command}
 use Rattle.aa_set_commands.specs.Refusal.{plain}
 use Rattle.aa_set_commands.specs.declared.refusal.Refusal.{Refusal}
 use Rattle.aa_set_commands.specs.declared.refusal.RefusalKind.TheVariants.{LineTooLong, Memory}
-use Rattle.aa_set_changes.specs.Changes.{change_takes_memory}
+use Rattle.aa_set_manager.specs.Changes.{change_takes_memory}
 use Rattle.aa_set_answers.specs.Answers.{asks_absent, reply_lines, shown, shows_absent}
 use Rattle.aa_set_answers.specs.List.{list_lines}
 use Rattle.aa_set_manager.specs.Manager.{Managed, back_at, is_mark_name, made, marking, redone, undone}

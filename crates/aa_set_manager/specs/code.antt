@@ -1,2 +1,3 @@
--- What is about the code: how a journal of slots is changed.
+-- What is about the code: the slots that a change exchanges, and its parts.
 pub mod Making
+pub mod Places

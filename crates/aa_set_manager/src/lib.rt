@@ -1,8 +1,19 @@
-//! The manager of a policy set with its history, and what it answers to a line.
+//! Policy sets, the changes that commands make of them, and the manager of one with its history: what it answers to a line.
 #![tactic(auto)]
 
+mod changes;
+mod laws;
+mod loading;
 mod manager;
+mod modes;
+mod places;
+mod policy;
 mod reply;
+mod settings;
 
+pub use changes::{adding, disabling, removing, replacing, switching};
+pub use laws::what_changes_keep;
 pub use manager::Manager;
+pub use policy::PolicySet;
 pub use reply::{Reply, reply_to};
+pub use settings::Settings;

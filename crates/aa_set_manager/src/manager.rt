@@ -3,7 +3,7 @@
 ghost use Rattle.std.specs.Prelude.{◌≡◌, Ok, Err, IfOk, IfErr, OnOk, OnErr, false, length, true, sum};
 ghost use Rattle.aa_history.specs.SeenMarks.{seen_marks};
 ghost use Rattle.aa_set_answers.specs.Answers.{answered, asks_absent, reply_lines, shown, shows_absent};
-ghost use Rattle.aa_set_changes.specs.Changes.{is_disabled, is_loaded};
+ghost use Rattle.aa_set_manager.specs.Changes.{is_disabled, is_loaded};
 ghost use Rattle.aa_set_commands.specs.Command.{Add, Remove, Replace};
 ghost use Rattle.aa_set_commands.specs.Question.{IsWellFormed, seen_question};
 ghost use Rattle.aa_set_commands.specs.Refusal.{IsRefusalOf, plain};
@@ -13,6 +13,10 @@ ghost use Rattle.aa_set_manager.specs.Manager.{is_mark_name};
 ghost use Rattle.aa_set_manager.specs.code.Making.{Makes};
 ghost use Rattle.aa_profile_data.specs.declared.profile.Mode.TheVariants.{Complain, Enforce};
 
+use crate::changes::{adding, disabling, removing, replacing, switching};
+use crate::laws::what_changes_keep;
+use crate::policy::PolicySet;
+use crate::settings::Settings;
 use aa_bytes::Sequence;
 use aa_decide::{Asker, Entry, Request};
 use aa_history::{
@@ -23,9 +27,6 @@ use aa_profile_data::{Mode, Profile};
 use aa_profile_parsing::Language;
 use aa_set_answers::{
     Answered, access_answer, exec_answer, find_asker, lines_of, list_lines, shown_lines,
-};
-use aa_set_changes::{
-    PolicySet, Settings, adding, disabling, removing, replacing, switching, what_changes_keep,
 };
 use aa_set_commands::{Question, Refusal, RefusalKind, plain};
 use aa_set_parts::{Exchange, Indexing, Remembering, Slots, fingerprint};
@@ -60,7 +61,7 @@ impl Drop for Manager {
 }
 
 impl Model for Manager {
-    ghost use Rattle.aa_decide_slots.specs.Slots.{filled};
+    ghost use Rattle.aa_decide_ready.specs.Slots.{filled};
     ghost use Rattle.aa_history.specs.Machine.{all_sets, mapped};
     ghost use Rattle.aa_set_manager.specs.Manager.{AreDistinct, Managed, managed_by};
 

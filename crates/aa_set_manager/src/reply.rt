@@ -7,8 +7,7 @@ ghost use Rattle.aa_set_manager.specs.declared.reply.Reply.TheVariants.{Answered
 
 use crate::manager::Manager;
 use aa_bytes::Sequence;
-use aa_set_commands::{Command, PolicyChange, Refusal, RefusalKind, plain, read};
-use aa_set_lines::LONGEST_LINE;
+use aa_set_commands::{Command, LONGEST_LINE, PolicyChange, Refusal, RefusalKind, plain, read};
 use aa_text_files::Files;
 
 /// What a line is answered.

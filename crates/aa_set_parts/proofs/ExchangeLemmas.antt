@@ -5,7 +5,7 @@ use Rattle.std.proofs.lemmas.List.Elements.{All-head, All-nil, All-push, All-set
 use Rattle.std.proofs.lemmas.List.{drop_all, drop_more, drop-set-lt, take_all, take_more_set}
 use Rattle.std.proofs.lemmas.Bool.{and_parts}
 use Rattle.std.specs.List.{All, list_all}
-use Rattle.aa_decide_slots.specs.Entries.{Loaded}
+use Rattle.aa_decide_ready.specs.Entries.{Loaded}
 use Rattle.aa_set_parts.specs.Parts.{after, back, exchanged, is_state, left}
 use Rattle.aa_set_parts.specs.PartLaws.{after-trimmed, exchanged-trimmed, left-trimmed}
 use Rattle.aa_set_parts.specs.SlotLaws.{trimmed-again}

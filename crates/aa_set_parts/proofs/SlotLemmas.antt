@@ -3,9 +3,9 @@ use Rattle.std.proofs.Common.{◌≡◌, ℕ, zero, suc, ◌+◌, ◌-◌, ◌<�
 use Rattle.std.specs.Prelude.{if◌then◌else◌}
 use Rattle.std.specs.Option.{is_some}
 use Rattle.std.proofs.lemmas.List.{length_push, length-take-le, take_more}
-use Rattle.aa_decide_slots.specs.Indexes.{profile_in}
-use Rattle.aa_decide_slots.specs.Entries.{Loaded, can_be_in}
-use Rattle.aa_decide_slots.specs.declared.entry.State.{State}
+use Rattle.aa_decide_ready.specs.Indexes.{profile_in}
+use Rattle.aa_decide_ready.specs.Entries.{Loaded, can_be_in}
+use Rattle.aa_decide_ready.specs.declared.entry.State.{State}
 use Rattle.aa_set_parts.specs.Parts.{is_state, put_in}
 use Rattle.aa_set_parts.specs.declared.parts.Content.{Content}
 use Rattle.aa_set_parts.specs.declared.parts.Content.TheVariants.{InState, Whole}

@@ -1,8 +1,8 @@
 -- What holds of the exchange of parts.
 use Rattle.std.proofs.Common.{◌≡◌, ℕ, Bool, true, false, List, [], ◌∷◌, ◌++◌, length, Option, None, Some, refl, sym, ap, ◌∙◌, arith}
 use Rattle.std.proofs.lemmas.List.{length_push}
-use Rattle.aa_decide_slots.specs.Entries.{Loaded, fits, state_left, with_state}
-use Rattle.aa_decide_slots.specs.declared.entry.State.{State}
+use Rattle.aa_decide_ready.specs.Entries.{Loaded, fits, state_left, with_state}
+use Rattle.aa_decide_ready.specs.declared.entry.State.{State}
 use Rattle.aa_set_parts.specs.Parts.{Reaching, after, back, exchanged, left, put_in, taken_out}
 use Rattle.aa_set_parts.specs.Slots.{content_at, trimmed, with_content}
 use Rattle.aa_set_parts.specs.SlotLaws.{content-trimmed, content-with, trimmed-again, with-again, with-settled, with-trimmed}

@@ -1,6 +1,6 @@
 -- Parts, each of which is exchanged with a slot: for all that the slot holds, or for the state of the entry that is there.
 use Rattle.std.specs.Prelude.{ℕ, Bool, true, false, List, [], ◌∷◌, ◌++◌, Option, None, Some}
-use Rattle.aa_decide_slots.specs.Entries.{Loaded, state_left, with_state}
+use Rattle.aa_decide_ready.specs.Entries.{Loaded, state_left, with_state}
 use Rattle.aa_set_parts.specs.Slots.{content_at, trimmed, with_content}
 use Rattle.aa_set_parts.specs.declared.parts.Content.{Content}
 use Rattle.aa_set_parts.specs.declared.parts.Content.TheVariants.{InState, Whole}

@@ -1,7 +1,7 @@
 -- What holds of slots of which one is filled or emptied.
 use Rattle.std.proofs.Common.{◌≡◌, ℕ, zero, suc, List, [], ◌∷◌, Option, None, Some, refl, ap, ◌∙◌}
-use Rattle.aa_decide_slots.specs.Entries.{Loaded}
-use Rattle.aa_decide_slots.specs.Slots.{filled}
+use Rattle.aa_decide_ready.specs.Entries.{Loaded}
+use Rattle.aa_decide_ready.specs.Slots.{filled}
 use Rattle.aa_set_parts.specs.Slots.{content_at, onto, trimmed, with_content}
 
 trimmed-onto : (slot : Option Loaded) (slots : List (Option Loaded)) → trimmed (onto slot slots) ≡ onto slot (trimmed slots)

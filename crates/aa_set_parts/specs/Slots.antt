@@ -1,6 +1,6 @@
 -- Slots of which one is filled or emptied. What they stand for is what they hold up to the last filled one.
 use Rattle.std.specs.Prelude.{ℕ, zero, suc, List, [], ◌∷◌, Option, None, Some}
-use Rattle.aa_decide_slots.specs.Entries.{Loaded}
+use Rattle.aa_decide_ready.specs.Entries.{Loaded}
 
 -- a slot before others; an empty one before none is none
 abbrev pub onto : Option Loaded → List (Option Loaded) → List (Option Loaded)

@@ -3,7 +3,7 @@
 ghost use Rattle.std.specs.Prelude.{◌≡◌};
 ghost use Rattle.aa_set_parts.specs.Parts.{put_in, taken_out};
 
-use aa_decide_slots::{Entry, State};
+use aa_decide_ready::{Entry, State};
 use std::mem;
 
 /// What a part holds for its slot.

@@ -2,7 +2,7 @@
 
 ghost use Rattle.std.specs.Prelude.{◌≡◌};
 
-use aa_decide_slots::Entry;
+use aa_decide_ready::Entry;
 use std::alloc::Global;
 
 // Of how many profiles, children and hats something is remembered at once.

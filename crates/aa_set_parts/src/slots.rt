@@ -2,13 +2,13 @@
 
 ghost use Rattle.std.specs.Prelude.{◌≡◌, ◌<◌, ◌≤◌, [], true, OnOk, length, vec_len};
 ghost use Rattle.std.specs.List.{All, list_all};
-ghost use Rattle.aa_decide_slots.specs.Indexes.{HoldSame};
+ghost use Rattle.aa_decide_ready.specs.Indexes.{HoldSame};
 ghost use Rattle.aa_set_parts.specs.Parts.{after, back, exchanged, is_state, left};
 ghost use Rattle.aa_set_parts.specs.Slots.{trimmed};
 
 use crate::parts::{Content, Part};
 use crate::remembered::{Remembered, Warm};
-use aa_decide_slots::{AttachmentIndex, Entry, IndexedSlots, NameIndex};
+use aa_decide_ready::{AttachmentIndex, Entry, IndexedSlots, NameIndex};
 use std::alloc::{AllocError, Global};
 use std::marker::Model;
 
@@ -48,8 +48,8 @@ impl Drop for Slots {
 
 impl Model for Slots {
     ghost use Rattle.std.specs.Prelude.{List, Option, IfSome};
-    ghost use Rattle.aa_decide_slots.specs.Indexes.{IsAttachmentIndexOf, IsNameIndexOf};
-    ghost use Rattle.aa_decide_slots.specs.Entries.{Loaded};
+    ghost use Rattle.aa_decide_ready.specs.Indexes.{IsAttachmentIndexOf, IsNameIndexOf};
+    ghost use Rattle.aa_decide_ready.specs.Entries.{Loaded};
 
     ghost Value = { List (Option Loaded) };
 

@@ -5,4 +5,5 @@ pub mod LineLaws
 pub mod PieceLaws
 pub mod PieceTexts
 pub mod SizeLemmas
+pub mod SplicingLemmas
 pub mod WordLemmas

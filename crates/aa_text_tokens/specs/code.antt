@@ -1,3 +1,4 @@
 -- What is about the code: how its tokens and the pieces that it cuts stand to the definitions.
 pub mod Pieces
+pub mod SplicingProgress
 pub mod Tokens

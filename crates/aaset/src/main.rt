@@ -3,8 +3,8 @@
 #![tactic(auto)]
 
 use aa_set::{FromRead, ToWrite};
+use aa_start::RuntimeFiles;
 use aaset_program::Fault;
-use aaset_start::RuntimeFiles;
 use std::process::ExitCode;
 use std::rt::Env;
 use std::{env, io};

@@ -7,11 +7,11 @@ use Rattle.aaset_program.specs.declared.stop.Stop.{Stop}
 use Rattle.aaset_program.specs.declared.stop.Stop.TheVariants.{Failed, Shown}
 use Rattle.aaset_program.specs.declared.ready.Ready.{Ready}
 use Rattle.aa_profile_parsing.specs.Languages.{word_of}
-use Rattle.aaset_start.specs.Arguments.{Asked, ForHelp, ForRun, ForVersion, Nothing, Run, asked}
-use Rattle.aaset_start.specs.Gathering.{IsFirstFault, IsReadBelow, IsTakable, names_of, texts_of}
-use Rattle.aaset_start.specs.Known.{Known}
-use Rattle.aaset_start.specs.Names.{AreGoodNames}
-use Rattle.aaset_start.specs.declared.gathering.GatherFault.TheVariants as files
+use Rattle.aa_start.specs.Arguments.{Asked, ForHelp, ForRun, ForVersion, Nothing, Run, asked}
+use Rattle.aa_start.specs.Gathering.{IsFirstFault, IsReadBelow, IsTakable, names_of, texts_of}
+use Rattle.aa_start.specs.Known.{Known}
+use Rattle.aa_start.specs.Names.{AreGoodNames}
+use Rattle.aa_start.specs.declared.gathering.GatherFault.TheVariants as files
 
 -- the files of a run: those of its names, in their order, with the bytes that lie below its folder, where they are known
 pub record AreFilesOf (known : Known) (run : Run) (files : List File) : Type 0 where

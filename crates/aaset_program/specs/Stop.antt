@@ -2,10 +2,10 @@
 use Rattle.aaset_program.specs.declared.stop.Stop.{Stop}
 use Rattle.aaset_program.specs.declared.stop.Stop.TheVariants.{Shown, Failed}
 use Rattle.aaset_program.specs.declared.fault.Fault.TheVariants.{BadArguments, Untaken, NoMemory}
-use Rattle.aa_options.specs.declared.fault.ArgumentFault.{ArgumentFault}
-use Rattle.aa_options.specs.declared.fault.ArgumentFault.TheVariants as arguments
-use Rattle.aaset_start.specs.declared.gathering.GatherFault.{GatherFault}
-use Rattle.aaset_start.specs.declared.gathering.GatherFault.TheVariants as files
+use Rattle.aa_start.specs.declared.fault.ArgumentFault.{ArgumentFault}
+use Rattle.aa_start.specs.declared.fault.ArgumentFault.TheVariants as arguments
+use Rattle.aa_start.specs.declared.gathering.GatherFault.{GatherFault}
+use Rattle.aa_start.specs.declared.gathering.GatherFault.TheVariants as files
 
 -- arguments that ask for no run: a text that was asked for is shown
 abbrev pub stop_at_arguments : ArgumentFault → Stop

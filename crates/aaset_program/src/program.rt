@@ -12,7 +12,7 @@ use crate::ready::{Ready, prepare};
 use crate::reporting::{report, show};
 use crate::stop::Stop;
 use aa_set::{Sink, Source};
-use aaset_start::FileSystem;
+use aa_start::FileSystem;
 use std::alloc::Global;
 
 // Answers the commands of standard input, each before the next is read.

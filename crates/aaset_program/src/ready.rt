@@ -1,14 +1,14 @@
 //! What is ready before the first command is read.
 ghost use Rattle.std.specs.Prelude.{◌≡◌, drop, map, string_bytes};
 ghost use Rattle.aaset_program.specs.Prepared.{ArePrepared, IsPrepared};
-ghost use Rattle.aaset_start.specs.Arguments.{ForRun, asked};
-ghost use Rattle.aaset_start.specs.Plan.{run_of};
+ghost use Rattle.aa_start.specs.Arguments.{ForRun, asked};
+ghost use Rattle.aa_start.specs.Plan.{run_of};
 
 use crate::fault::Fault;
 use crate::stop::Stop;
 use aa_set::Language;
+use aa_start::{FileSystem, Plan};
 use aa_text_files::Files;
-use aaset_start::{FileSystem, Plan};
 use std::alloc::Global;
 
 /// What is ready before the first command is read.
@@ -32,7 +32,7 @@ fn gather<D: FileSystem>(alloc: Global, plan: Plan, disk: &D) -> Result<Ready, S
         base,
         names,
     } = plan;
-    let files = aaset_start::gather(disk, alloc, base.as_str(), names)?;
+    let files = aa_start::gather(disk, alloc, base.as_str(), names)?;
     Ok(Ready {
         files,
         language,
@@ -44,7 +44,7 @@ fn gather<D: FileSystem>(alloc: Global, plan: Plan, disk: &D) -> Result<Ready, S
 fn prepare_for<D: FileSystem>(alloc: Global, words: &[String], disk: &D) -> Result<Ready, Stop>
     ensures { IsPrepared (D.known disk.now) (asked (drop 1 (map string_bytes words.now))) result }
 {
-    let plan = aaset_start::plan(alloc, words)?;
+    let plan = aa_start::plan(alloc, words)?;
     gather(alloc, plan, disk)
 }
 

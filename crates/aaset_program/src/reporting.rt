@@ -7,7 +7,7 @@ ghost use Rattle.aaset_program.specs.Program.{IsReported, IsShown, line_of};
 
 use crate::fault::{Fault, FaultText, fault_status, fault_text};
 use aa_set::{Failed, Sink};
-use aa_set_lines::write_all;
+use aa_set_commands::write_all;
 
 // Writes a fault's text on a line of its own.
 fn write_line<E: Sink>(errors: &mut E, text: FaultText<'_>) -> Result<(), Failed>

@@ -3,7 +3,7 @@ ghost use Rattle.std.specs.Prelude.{◌≡◌};
 ghost use Rattle.aaset_program.specs.Stop.{stop_at_arguments, stop_at_files};
 
 use crate::fault::Fault;
-use aaset_start::{ArgFault, GatherFault};
+use aa_start::{ArgumentFault, GatherFault};
 
 /// Why the program ends before it reads a command.
 #[derive(Drop)]
@@ -14,14 +14,14 @@ pub enum Stop {
     Failed(Fault),
 }
 
-impl From<ArgFault> for Stop {
+impl From<ArgumentFault> for Stop {
     ghost from_gives = { λ fault stop. stop ≡ stop_at_arguments fault };
 
-    fn from(fault: ArgFault) -> Stop {
+    fn from(fault: ArgumentFault) -> Stop {
         match fault {
-            ArgFault::Help(text) | ArgFault::Version(text) => Stop::Shown(text),
-            ArgFault::Bad => Stop::Failed(Fault::BadArguments),
-            ArgFault::Memory => Stop::Failed(Fault::NoMemory),
+            ArgumentFault::Help(text) | ArgumentFault::Version(text) => Stop::Shown(text),
+            ArgumentFault::Bad => Stop::Failed(Fault::BadArguments),
+            ArgumentFault::Memory => Stop::Failed(Fault::NoMemory),
         }
     }
 }

@@ -1,11 +1,21 @@
 //! Helps with AppArmor policy at a terminal: the real words, folders, files and streams, handed to `start`.
 #![tactic(auto)]
 
-use aa_set_lines::{FromRead, ToWrite};
-use aaset_start::RuntimeFiles;
-use aatry_colors::{ColorWish, Painted, WithWish, is_colored, wished};
-use aatry_folder::RuntimeFolders;
-use aatry_program::{Disk, Fault, Muted, Piped, Streams};
+mod disk;
+mod pipes;
+mod program;
+mod questions;
+mod reporting;
+mod status;
+mod streams;
+
+use crate::disk::Disk;
+use crate::pipes::{Muted, Piped};
+use crate::streams::Streams;
+use aa_set_commands::{FromRead, ToWrite};
+use aa_start::RuntimeFiles;
+use aatry_folder::{Fault, RuntimeFolders};
+use aatry_hints::{ColorWish, Painted, WithWish, is_colored, wished};
 use aatry_test::RuntimeStore;
 use std::alloc::Global;
 use std::cell::Cell;
@@ -19,7 +29,7 @@ use std::{env, io};
 fn words_of_start<R: Env + AllocGlobal>(rt: &R) -> Result<Vec<String>, Fault> {
     match env::args(rt) {
         Ok(words) => words.collect(rt.alloc()).map_err(|_| Fault::NoMemory),
-        Err(error) => Err(aatry_program::fault_of_words(&error)),
+        Err(error) => Err(crate::status::fault_of_words(&error)),
     }
 }
 
@@ -103,7 +113,7 @@ fn main(rt: HostRuntime) -> ExitCode {
         errors: ToWrite::new(Muted::new(rt.stderr(), &is_closed)),
     };
     if let Some(words) = misread {
-        let status = aatry_program::report_words(rt.alloc(), &words, &mut streams.errors);
+        let status = crate::program::report_words(rt.alloc(), &words, &mut streams.errors);
         return ExitCode::from(status);
     }
     let mut disk = Disk {
@@ -111,6 +121,6 @@ fn main(rt: HostRuntime) -> ExitCode {
         files: RuntimeFiles::new(&rt),
         store: RuntimeStore::new(&rt),
     };
-    let status = aatry_program::start(rt.alloc(), words, &mut disk, prompt, &mut streams);
+    let status = crate::program::start(rt.alloc(), words, &mut disk, prompt, &mut streams);
     ExitCode::from(status)
 }

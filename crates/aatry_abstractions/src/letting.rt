@@ -1,7 +1,7 @@
 //! Which abstractions let which requests.
 
 ghost use Rattle.std.specs.Prelude.{◌≡◌, ◌++◌, [], IfOk, OnOk, map, option_map};
-ghost use Rattle.aa_profile_access.specs.SeenRequests.{request_of};
+ghost use Rattle.aa_profile_data.specs.SeenRequests.{request_of};
 ghost use Rattle.aatry_abstractions.specs.Letting.{IsNarrowestFirst, is_allow, lets, letting, letting_by, letting_of, lettings, places_let};
 ghost use Rattle.aatry_abstractions.specs.SeenLetting.{seen_letting};
 

@@ -1,15 +1,15 @@
 -- What words ask for that are read as those behind `check`.
 use Rattle.std.proofs.Common.{◌≡◌, ℕ, Bool, true, false, List, Result, Ok, Err, refl, sym, subst}
-use Rattle.aa_options.specs.Given.{IsGivenFor}
-use Rattle.aa_options.proofs.FaultLemmas.{memory_given}
+use Rattle.aa_start.specs.Given.{IsGivenFor}
+use Rattle.aa_start.proofs.FaultLemmas.{memory_given}
 use Rattle.aatry_arguments.specs.Arguments.{CommandAsked, ForCheck, ForRules, asked_checks}
-use Rattle.aa_options.specs.Options.{Asked, ForThis, ForHelp, ForVersion, Nothing, asked_as, asked_then}
+use Rattle.aa_start.specs.Options.{Asked, ForThis, ForHelp, ForVersion, Nothing, asked_as, asked_then}
 use Rattle.aatry_arguments.specs.CheckWords.{CheckAsked, asked_check}
 use Rattle.aatry_arguments.specs.Flags.{is_given, without_flag}
 use Rattle.aatry_arguments.specs.Given.{IsHelp, IsPassedOn}
 use Rattle.aatry_arguments.specs.RulesWords.{RulesCheckAsked, asked_rules, redundant_flag}
-use Rattle.aa_options.specs.declared.fault.ArgumentFault.{ArgumentFault}
-use Rattle.aa_options.specs.declared.fault.ArgumentFault.TheVariants.{Help, Version, Bad, Memory}
+use Rattle.aa_start.specs.declared.fault.ArgumentFault.{ArgumentFault}
+use Rattle.aa_start.specs.declared.fault.ArgumentFault.TheVariants.{Help, Version, Bad, Memory}
 
 -- help may be given where it is asked for
 pub help_given : {A B : Type 0} (meant : B → A) (fault : ArgumentFault) → IsHelp fault → IsGivenFor meant ForHelp (Err fault)

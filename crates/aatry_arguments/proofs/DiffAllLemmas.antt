@@ -6,7 +6,7 @@ use Rattle.std.specs.Str.{bytes_eq, chars}
 use Rattle.std.proofs.lemmas.Slice.Eq.{bytes_eq-Decides}
 use Rattle.std.proofs.lemmas.List.{take-append-drop}
 use Rattle.aa_bytes.specs.Texts.{begins_with}
-use Rattle.aa_options.specs.Options.{Asked, ForThis, Nothing, Open, asked_as, asked_then, is_name, is_option}
+use Rattle.aa_start.specs.Options.{Asked, ForThis, Nothing, Open, asked_as, asked_then, is_name, is_option}
 use Rattle.aatry_arguments.specs.Arguments.{ForDiffAll, asked}
 use Rattle.aatry_arguments.specs.DiffAllWords.{all_flag, asked_all, asked_by, asked_by_limit, asked_limited, asked_of, quiet_audit_flag, without_flags}
 use Rattle.aatry_arguments.specs.DiffWords.{DiffGiven, OfLog, OfQuestions, bare_given, given_behind, stat_flag, with_folders, with_path}
@@ -14,7 +14,7 @@ use Rattle.aatry_arguments.specs.Flags.{is_given, without_flag}
 use Rattle.aatry_arguments.specs.Languages.{ends_options}
 use Rattle.aatry_arguments.specs.PathsWords.{PathsLimited, limit_option, limited_by}
 use Rattle.aatry_arguments.specs.Values.{IsWithout, value_in, value_within, with_word}
-use Rattle.aatry_times.specs.Numbers.{number_of}
+use Rattle.aatry_words.specs.Numbers.{number_of}
 use Rattle.aatry_arguments.proofs.DiffLawLemmas.{all_option, behind_path, folder_word, log_word, plain_words, questions_word, stat_option}
 use Rattle.aatry_arguments.proofs.FlagLemmas.{dashes_option, names_alone, names_before, no_option, none_given}
 

@@ -2,11 +2,11 @@
 use Rattle.std.proofs.Common.{◌≡◌, ◌∙◌, ◌++◌, ℕ, true, false, List, [], ◌∷◌, None, Some, refl, ap, codes}
 use Rattle.std.specs.List.{list_all}
 use Rattle.std.specs.Str.{bytes_eq, chars}
-use Rattle.aa_options.specs.Options.{Open, is_name, is_option}
-use Rattle.aa_options.proofs.PlainLemmas.{plain_word, plain_words as words_plain}
+use Rattle.aa_start.specs.Options.{Open, is_name, is_option}
+use Rattle.aa_start.proofs.PlainLemmas.{plain_word, plain_words as words_plain}
 use Rattle.aatry_arguments.proofs.DiffLemmas.{folders_in_turn, no_folders}
 use Rattle.aatry_arguments.specs.Arguments.{ForDiff, asked}
-use Rattle.aa_options.specs.Options.{Asked, ForThis, Nothing, asked_as, asked_then}
+use Rattle.aa_start.specs.Options.{Asked, ForThis, Nothing, asked_as, asked_then}
 use Rattle.aatry_arguments.specs.DiffAllWords.{all_flag}
 use Rattle.aatry_arguments.specs.DiffWords.{DiffGiven, LogAt, OfLog, OfQuestions, QuestionsAt, asked_by, asked_diff, asked_of, bare_given, comparison_with, diff_options, given_behind, stat_flag, with_folders, with_path}
 use Rattle.aatry_arguments.specs.Flags.{is_given, without_flag}

@@ -3,13 +3,13 @@ use Rattle.std.proofs.Common.{◌≡◌, ◌∙◌, ◌≤◌, ℕ, Bool, true, 
 use Rattle.std.specs.Prelude.{◌==◌}
 use Rattle.std.specs.Char.{encode_utf8}
 use Rattle.std.specs.Str.{bytes_eq}
-use Rattle.aa_options.specs.Lines.{GoesOn, IsDoneBy, Reads, TakesValue}
-use Rattle.aa_options.specs.Options.{Open, help_letter}
-use Rattle.aa_options.specs.Reading.{IsReadAs}
-use Rattle.aa_options.specs.Rows.{ShowsValue, ShowsWords}
-use Rattle.aa_options.proofs.EndLemmas.{words_are_read}
-use Rattle.aa_options.proofs.LineLemmas.{WantsNothing}
-use Rattle.aa_options.proofs.RowLemmas.{appended, no_defaults, other_appended, other_replaced, range_fits, repeat_passes, replaced, texts_pass, value_replaced, values_twice, words_appended}
+use Rattle.aa_start.specs.Lines.{GoesOn, IsDoneBy, Reads, TakesValue}
+use Rattle.aa_start.specs.Options.{Open, help_letter}
+use Rattle.aa_start.specs.Parsing.{IsReadAs}
+use Rattle.aa_start.specs.Rows.{ShowsValue, ShowsWords}
+use Rattle.aa_start.proofs.EndLemmas.{words_are_read}
+use Rattle.aa_start.proofs.LineLemmas.{WantsNothing}
+use Rattle.aa_start.proofs.RowLemmas.{appended, no_defaults, other_appended, other_replaced, range_fits, repeat_passes, replaced, texts_pass, value_replaced, values_twice, words_appended}
 use Rattle.clap.specs.Lexer.{usize_max}
 use Rattle.clap.specs.Words.{Row, Rule, Text, is_simple, is_simple_and_free}
 use Rattle.clap.specs.Simple.{built, filled, with_index}

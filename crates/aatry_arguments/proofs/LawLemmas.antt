@@ -2,10 +2,10 @@
 use Rattle.std.proofs.Common.{◌≡◌, ◌∙◌, ℕ, true, false, List, [], ◌∷◌, refl, codes}
 use Rattle.std.specs.List.{list_all}
 use Rattle.std.specs.Str.{chars}
-use Rattle.aa_options.specs.Options.{Open, is_name, is_option}
-use Rattle.aa_options.proofs.PlainLemmas.{plain_words as words_plain}
+use Rattle.aa_start.specs.Options.{Open, is_name, is_option}
+use Rattle.aa_start.proofs.PlainLemmas.{plain_words as words_plain}
 use Rattle.aatry_arguments.specs.Arguments.{ForCheck, asked}
-use Rattle.aa_options.specs.Options.{ForThis}
+use Rattle.aa_start.specs.Options.{ForThis}
 use Rattle.aatry_arguments.proofs.CheckLemmas.{names_in_turn, no_names}
 use Rattle.aatry_arguments.specs.CheckWords.{CheckAsked, asked_behind, below, check_options, check_with, with_names}
 

@@ -1,7 +1,7 @@
 -- What the words of the arguments ask for.
 use Rattle.std.specs.Prelude.{ℕ, Bool, false, true, ◌||◌, if◌then◌else◌, List, [], ◌∷◌, codes}
 use Rattle.std.specs.Str.{bytes_eq}
-use Rattle.aa_options.specs.Options.{Asked, ForHelp, ForVersion, Nothing, asked_as}
+use Rattle.aa_start.specs.Options.{Asked, ForHelp, ForVersion, Nothing, asked_as}
 use Rattle.aatry_arguments.specs.AskingWords.{AskingAsked, asked_words}
 use Rattle.aatry_arguments.specs.CheckWords.{CheckAsked, asked_check}
 use Rattle.aatry_arguments.specs.DiffAllWords.{PathComparisonAsked, all_flag, asked_all}

@@ -1,7 +1,7 @@
 -- What the words behind `who` and `why` ask for.
 use Rattle.std.specs.Prelude.{ℕ, if◌then◌else◌, List}
 use Rattle.aa_bytes.specs.Texts.{is_empty}
-use Rattle.aa_options.specs.Options.{Asked, ForThis, Nothing, asked_then}
+use Rattle.aa_start.specs.Options.{Asked, ForThis, Nothing, asked_then}
 use Rattle.aatry_arguments.specs.CheckWords.{CheckAsked, asked_check}
 
 -- a question that is asked of a folder of policy, and its words; which words make a question is decided elsewhere

@@ -1,7 +1,7 @@
 -- The command line behind `check`, as `clap` is told of it.
 use Rattle.std.specs.Prelude.{false, codes}
-use Rattle.aa_options.specs.Lines.{bare_line, value_rule, words_rule}
-use Rattle.aa_options.specs.Options.{base_letter}
+use Rattle.aa_start.specs.Lines.{bare_line, value_rule, words_rule}
+use Rattle.aa_start.specs.Options.{base_letter}
 use Rattle.clap.specs.Words.{App, Rule, with_rule}
 
 -- the folder of policy

@@ -1,8 +1,8 @@
 -- What the words behind `check` ask for.
 use Rattle.std.specs.Prelude.{ℕ, ◌==◌, if◌then◌else◌, List, [], ◌++◌, codes}
 use Rattle.std.specs.Str.{bytes_eq}
-use Rattle.aa_options.specs.Options as words
-use Rattle.aa_options.specs.Options.{Asked, Effect, Help, Open, Options, SoFar, Unknown, Value, base_letter, default_base, help_letter}
+use Rattle.aa_start.specs.Options as words
+use Rattle.aa_start.specs.Options.{Asked, Effect, Help, Open, Options, SoFar, Unknown, Value, base_letter, default_base, help_letter}
 
 -- a check that is asked for: the folder of policy, and the names of its files to check, or none for all at its top
 pub record CheckAsked : Type 0 where

@@ -1,7 +1,7 @@
 -- What the words behind `diff` ask for where the flag `--all` is among them: what a change of policy changes, for all paths.
 use Rattle.std.specs.Prelude.{ℕ, Bool, List, [], ◌∷◌, Option, Some, None, codes}
 use Rattle.std.specs.Option.{option_map_or}
-use Rattle.aa_options.specs.Options.{Asked, ForThis, Nothing, Open, asked_then}
+use Rattle.aa_start.specs.Options.{Asked, ForThis, Nothing, Open, asked_then}
 use Rattle.aatry_arguments.specs.DiffWords.{DiffGiven, bare_given, given_behind, stat_flag}
 use Rattle.aatry_arguments.specs.Flags.{is_given, without_flag}
 use Rattle.aatry_arguments.specs.PathsWords.{PathsLimited, limited_in}

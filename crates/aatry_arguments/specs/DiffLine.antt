@@ -1,6 +1,6 @@
 -- The command line behind `diff`, as `clap` is told of it.
 use Rattle.std.specs.Prelude.{false, codes}
-use Rattle.aa_options.specs.Lines.{bare_line, named_value_rule, words_rule}
+use Rattle.aa_start.specs.Lines.{bare_line, named_value_rule, words_rule}
 use Rattle.clap.specs.Words.{App, Rule, with_rule}
 
 -- the log

@@ -2,7 +2,7 @@
 use Rattle.std.specs.Prelude.{ℕ, Bool, ◌==◌, if◌then◌else◌, List, [], ◌∷◌, ◌++◌, Option, Some, None, codes}
 use Rattle.std.specs.Option.{option_map_or}
 use Rattle.std.specs.Str.{bytes_eq}
-use Rattle.aa_options.specs.Options.{Asked, Effect, ForThis, Help, Nothing, Open, Options, SoFar, Unknown, Value, asked_behind, asked_then, help_letter}
+use Rattle.aa_start.specs.Options.{Asked, Effect, ForThis, Help, Nothing, Open, Options, SoFar, Unknown, Value, asked_behind, asked_then, help_letter}
 use Rattle.aatry_arguments.specs.Flags.{is_given, without_flag}
 
 -- where requests are told of: a log, or a file of questions, by its path

@@ -1,7 +1,7 @@
 -- In which form is told what a command finds, at length or not, and by which language it reads policy.
 use Rattle.std.specs.Prelude.{ℕ, Bool, false, true, if◌then◌else◌, List, None, Some, codes}
 use Rattle.aatry_arguments.specs.Arguments.{CommandAsked, ForCheck, ForSession, ForTest, asked}
-use Rattle.aa_options.specs.Options.{Asked, ForThis, Nothing, asked_as, asked_then}
+use Rattle.aa_start.specs.Options.{Asked, ForThis, Nothing, asked_as, asked_then}
 use Rattle.aa_profile_parsing.specs.declared.language.Language.{Language}
 use Rattle.aa_profile_parsing.specs.declared.language.Language.TheVariants.{Four}
 use Rattle.aatry_arguments.specs.Flags.{is_given, without_flag}

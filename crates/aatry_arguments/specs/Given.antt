@@ -1,6 +1,6 @@
 -- What the program makes of the words of its arguments.
 use Rattle.std.specs.Prelude.{◌≡◌, option_map, string_bytes}
-use Rattle.aa_options.specs.Texts.{texts}
+use Rattle.aa_start.specs.Texts.{texts}
 use Rattle.aatry_arguments.specs.AskingWords.{AskingAsked, asking_with}
 use Rattle.aatry_arguments.specs.CheckWords.{CheckAsked, check_with}
 use Rattle.aatry_arguments.specs.Arguments.{CommandAsked, ForCheck, ForDiff, ForDiffAll, ForLog, ForPaths, ForReach, ForRules, ForSession, ForTest, ForWho, ForWhy}
@@ -30,8 +30,8 @@ use Rattle.aatry_arguments.specs.declared.arguments.Session.{Session}
 use Rattle.aatry_arguments.specs.declared.arguments.Test.{Test}
 use Rattle.aatry_arguments.specs.declared.arguments.Command.{Command}
 use Rattle.aatry_arguments.specs.declared.arguments.Command.TheVariants as command
-use Rattle.aa_options.specs.declared.fault.ArgumentFault.{ArgumentFault}
-use Rattle.aa_options.specs.declared.fault.ArgumentFault.TheVariants.{Help, Version, Memory}
+use Rattle.aa_start.specs.declared.fault.ArgumentFault.{ArgumentFault}
+use Rattle.aa_start.specs.declared.fault.ArgumentFault.TheVariants.{Help, Version, Memory}
 
 -- the check that is meant
 abbrev pub meant_check : Check → CheckAsked

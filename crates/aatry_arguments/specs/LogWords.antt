@@ -1,11 +1,11 @@
 -- What the words behind `log` ask for.
 use Rattle.std.specs.Prelude.{ℕ, Bool, false, List, Option, None, Some, codes}
 use Rattle.std.specs.Option.{option_map}
-use Rattle.aa_options.specs.Options.{Asked, ForThis, Nothing, asked_then}
+use Rattle.aa_start.specs.Options.{Asked, ForThis, Nothing, asked_then}
 use Rattle.aatry_arguments.specs.CheckWords.{CheckAsked, asked_check}
 use Rattle.aatry_arguments.specs.Flags.{is_given, without_flag}
 use Rattle.aatry_arguments.specs.Values.{ValueOption, WithValue, value_of}
-use Rattle.aatry_times.specs.Named.{time_named}
+use Rattle.aatry_words.specs.Named.{time_named}
 
 -- which lines of logs are asked for: those alone that tell of a request as DENIED, those of a profile, those from a time on
 pub record LogLinesAsked : Type 0 where

@@ -1,11 +1,11 @@
 -- What the words behind `never` and `always` ask for.
 use Rattle.std.specs.Prelude.{ℕ, Bool, List, Option, None, Some, codes}
 use Rattle.std.specs.Option.{option_map}
-use Rattle.aa_options.specs.Options.{Asked, ForThis, Nothing, asked_then}
+use Rattle.aa_start.specs.Options.{Asked, ForThis, Nothing, asked_then}
 use Rattle.aatry_arguments.specs.AskingWords.{AskingAsked, asked_words}
 use Rattle.aatry_arguments.specs.Flags.{is_given, without_flag}
 use Rattle.aatry_arguments.specs.Values.{ValueOption, WithValue, value_of}
-use Rattle.aatry_times.specs.Numbers.{number_of}
+use Rattle.aatry_words.specs.Numbers.{number_of}
 
 -- a question about all paths: what is asked of which folder, whether it is `always`, whether names alone are to be told, and how many sets are to be
 -- looked at; which words make a question is decided elsewhere

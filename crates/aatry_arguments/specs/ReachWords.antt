@@ -1,6 +1,6 @@
 -- What the words behind `reach` ask for.
 use Rattle.std.specs.Prelude.{ℕ, Bool, List, Option, None, Some, codes}
-use Rattle.aa_options.specs.Options.{Asked, ForThis, Nothing, asked_then}
+use Rattle.aa_start.specs.Options.{Asked, ForThis, Nothing, asked_then}
 use Rattle.aatry_arguments.specs.AskingWords.{AskingAsked, asked_words}
 use Rattle.aatry_arguments.specs.Flags.{is_given, without_flag}
 use Rattle.aatry_arguments.specs.PathsWords.{PathsLimited, limited_in}

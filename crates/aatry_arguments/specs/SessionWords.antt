@@ -1,7 +1,7 @@
 -- What the words behind `session` ask for.
 use Rattle.std.specs.Prelude.{ℕ, if◌then◌else◌, List}
 use Rattle.aa_bytes.specs.Texts.{is_empty}
-use Rattle.aa_options.specs.Options.{Asked, ForThis, Nothing, asked_then}
+use Rattle.aa_start.specs.Options.{Asked, ForThis, Nothing, asked_then}
 use Rattle.aatry_arguments.specs.CheckWords.{CheckAsked, asked_check}
 
 -- a session that is asked for: its folder of policy

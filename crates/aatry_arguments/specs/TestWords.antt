@@ -1,7 +1,7 @@
 -- What the words behind `test` ask for.
 use Rattle.std.specs.Prelude.{ℕ, Bool, if◌then◌else◌, List, codes}
 use Rattle.aa_bytes.specs.Texts.{is_empty}
-use Rattle.aa_options.specs.Options.{Asked, ForThis, Nothing, asked_then}
+use Rattle.aa_start.specs.Options.{Asked, ForThis, Nothing, asked_then}
 use Rattle.aatry_arguments.specs.CheckWords.{CheckAsked, asked_check}
 use Rattle.aatry_arguments.specs.Flags.{is_given, without_flag}
 

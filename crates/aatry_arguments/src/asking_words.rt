@@ -1,13 +1,13 @@
 //! Reading of the words behind `who` and `why`: as those behind `check` are read.
 ghost use Rattle.std.specs.Prelude.{map, string_bytes};
 ghost use Rattle.aatry_arguments.specs.AskingWords.{asked_words, asking_of};
-ghost use Rattle.aa_options.specs.Given.{IsGivenFor};
+ghost use Rattle.aa_start.specs.Given.{IsGivenFor};
 ghost use Rattle.aatry_arguments.specs.Given.{meant_asking, meant_check};
 
 use crate::arguments::{Asking, Check};
 use crate::check_words::check_of;
 use crate::faults::passed_on;
-use aa_options::ArgumentFault;
+use aa_start::ArgumentFault;
 use std::alloc::Global;
 
 // What help says of `who`.

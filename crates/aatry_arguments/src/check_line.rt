@@ -1,10 +1,10 @@
 //! The command line behind `check`, as `clap` is told of it.
 ghost use Rattle.std.specs.Prelude.{◌≡◌, false, IfOk, codes};
-ghost use Rattle.aa_options.specs.Lines.{bare_line};
+ghost use Rattle.aa_start.specs.Lines.{bare_line};
 ghost use Rattle.clap.specs.Words.{app_of, rule_of};
 ghost use Rattle.aatry_arguments.specs.CheckLine.{base_rule, check_line, name_rule};
 
-use aa_options::with_argument;
+use aa_start::with_argument;
 use clap::{Arg, Command};
 use std::alloc::{AllocError, Global};
 
@@ -40,7 +40,7 @@ fn base_argument<'a>(alloc: Global) -> Arg<'a>
     ensures rule { rule_of result ≡ base_rule }
     ensures local { result.global ≡ false }
 {
-    aa_options::value(
+    aa_start::value(
         alloc,
         "DIR",
         'b',
@@ -53,7 +53,7 @@ fn name_argument<'a>(alloc: Global) -> Arg<'a>
     ensures rule { rule_of result ≡ name_rule }
     ensures local { result.global ≡ false }
 {
-    aa_options::other_words(
+    aa_start::other_words(
         alloc,
         "NAME",
         false,
@@ -65,7 +65,7 @@ fn name_argument<'a>(alloc: Global) -> Arg<'a>
 fn bare_command<'a>(alloc: Global) -> Command<'a>
     ensures { app_of result ≡ bare_line (codes "aatry check") }
 {
-    aa_options::bare_command(alloc, "aatry check")
+    aa_start::bare_command(alloc, "aatry check")
         .about(
             "Tells of each file of a folder of AppArmor policy whether it is taken, or what is wrong with it",
         )

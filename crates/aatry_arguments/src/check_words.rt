@@ -1,13 +1,13 @@
 //! Reading of the words behind `check`, by `clap`.
 ghost use Rattle.std.specs.Prelude.{◌≡◌, IfOk, map, string_bytes};
-ghost use Rattle.aa_options.specs.Given.{IsGivenFor};
-ghost use Rattle.aa_options.specs.Texts.{words_of};
+ghost use Rattle.aa_start.specs.Given.{IsGivenFor};
+ghost use Rattle.aa_start.specs.Texts.{words_of};
 ghost use Rattle.aatry_arguments.specs.CheckWords.{asked_check, check_with};
 ghost use Rattle.aatry_arguments.specs.Given.{meant_check};
 
 use crate::arguments::Check;
 use crate::check_line::check_command;
-use aa_options::{ArgumentFault, copied, parse};
+use aa_start::{ArgumentFault, copied, parse};
 use std::alloc::{AllocError, Global};
 
 // The folder of policy, where none is given.

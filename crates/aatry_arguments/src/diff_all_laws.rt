@@ -2,14 +2,14 @@
 
 ghost use Rattle.std.specs.Prelude.{◌≡◌, ◌++◌, ℕ, Bool, None, Some, false, true, List, Option, [], ◌∷◌, codes};
 ghost use Rattle.std.specs.List.{list_all};
-ghost use Rattle.aa_options.specs.Options.{ForThis, Nothing, asked_as, is_name, is_option};
+ghost use Rattle.aa_start.specs.Options.{ForThis, Nothing, asked_as, is_name, is_option};
 ghost use Rattle.aatry_arguments.specs.Arguments.{ForDiff, ForDiffAll, asked};
 ghost use Rattle.aatry_arguments.specs.DiffAllWords.{all_flag, asked_all, asked_by, path_comparison_with, quiet_audit_flag, without_flags};
 ghost use Rattle.aatry_arguments.specs.DiffWords.{asked_diff, stat_flag};
 ghost use Rattle.aatry_arguments.specs.Flags.{is_given, without_flag};
 ghost use Rattle.aatry_arguments.specs.PathsWords.{limit_option};
 ghost use Rattle.aatry_arguments.specs.Values.{IsWithout, value_in};
-ghost use Rattle.aatry_times.specs.Numbers.{number_of};
+ghost use Rattle.aatry_words.specs.Numbers.{number_of};
 
 /// `diff` with `--all` alone, or with one word more that is no option, asks for nothing that there is. Two words that are no options and more behind them ask
 /// for the comparison of the first two, for those of the other names, by 262,144 sets and in full. With a path behind `--log` or `--questions` they ask for

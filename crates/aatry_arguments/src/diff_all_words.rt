@@ -1,7 +1,7 @@
 //! Reading of the words behind `diff` where the flag `--all` is among them, and of all others behind it.
 ghost use Rattle.std.specs.Prelude.{◌≡◌, IfOk, map, option_map, string_bytes};
-ghost use Rattle.aa_options.specs.Given.{IsGivenFor};
-ghost use Rattle.aa_options.specs.Texts.{words_of};
+ghost use Rattle.aa_start.specs.Given.{IsGivenFor};
+ghost use Rattle.aa_start.specs.Texts.{words_of};
 ghost use Rattle.aatry_arguments.specs.Arguments.{asked_diffs};
 ghost use Rattle.aatry_arguments.specs.DiffAllWords.{asked_all, asked_by, asked_limited, asked_of, compared_for, path_comparison_of, path_comparison_with, without_flags};
 ghost use Rattle.aatry_arguments.specs.DiffWords.{given_with};
@@ -14,7 +14,7 @@ use crate::diff_words::{HELP, STAT, diff_of};
 use crate::faults::passed_on;
 use crate::flags::{is_given, without_flag};
 use crate::paths_words::{PathsLimited, limited_in};
-use aa_options::{ArgumentFault, copied, parse};
+use aa_start::{ArgumentFault, copied, parse};
 use std::alloc::{AllocError, Global};
 
 // The flag that asks for all paths.

@@ -1,7 +1,7 @@
 //! Reading of the words behind `diff`, by `clap`.
 ghost use Rattle.std.specs.Prelude.{◌≡◌, IfOk, map, option_map, string_bytes};
-ghost use Rattle.aa_options.specs.Given.{IsGivenFor};
-ghost use Rattle.aa_options.specs.Texts.{words_of};
+ghost use Rattle.aa_start.specs.Given.{IsGivenFor};
+ghost use Rattle.aa_start.specs.Texts.{words_of};
 ghost use Rattle.aatry_arguments.specs.DiffWords.{asked_by, asked_diff, asked_of, comparison_of, comparison_with, given_with, source_of};
 ghost use Rattle.aatry_arguments.specs.Given.{meant_comparison, meant_source};
 
@@ -9,7 +9,7 @@ use crate::arguments::{Comparison, RequestSource};
 use crate::diff_line::diff_command;
 use crate::faults::passed_on;
 use crate::flags::{is_given, without_flag};
-use aa_options::{ArgumentFault, parse};
+use aa_start::{ArgumentFault, parse};
 use std::alloc::{AllocError, Global};
 
 /// The flag that asks for how much differs.

@@ -1,7 +1,7 @@
 //! Faults of the commands whose words are read as those behind `check`.
 ghost use Rattle.aatry_arguments.specs.Given.{IsHelp, IsPassedOn};
 
-use aa_options::ArgumentFault;
+use aa_start::ArgumentFault;
 use std::alloc::Global;
 
 /// Help, by its text; `Memory` where memory ran out.

@@ -2,9 +2,9 @@
 
 ghost use Rattle.std.specs.Prelude.{◌≡◌, drop, map, string_bytes};
 ghost use Rattle.aatry_arguments.specs.Arguments.{asked};
-ghost use Rattle.aa_options.specs.Options.{asked_as, asked_then};
+ghost use Rattle.aa_start.specs.Options.{asked_as, asked_then};
 ghost use Rattle.aatry_arguments.specs.Forms.{asked_by, asked_call, asked_in, at_length, call_with, in_records};
-ghost use Rattle.aa_options.specs.Given.{IsGivenFor};
+ghost use Rattle.aa_start.specs.Given.{IsGivenFor};
 ghost use Rattle.aatry_arguments.specs.Given.{meant_call, meant_command};
 ghost use Rattle.aatry_report.specs.declared.form.Form.TheVariants as form;
 
@@ -12,8 +12,8 @@ use crate::arguments::{Call, Command};
 use crate::flags::{is_given, without_flag};
 use crate::languages::by_language;
 use crate::reading::command_behind;
-use aa_options::ArgumentFault;
 use aa_profile_parsing::Language;
+use aa_start::ArgumentFault;
 use aatry_report::Form;
 use std::alloc::Global;
 

@@ -2,12 +2,12 @@
 
 ghost use Rattle.std.specs.Prelude.{◌≡◌, ◌++◌, ℕ, None, Some, false, true, List, Option, [], ◌∷◌, codes};
 ghost use Rattle.std.specs.List.{list_all};
-ghost use Rattle.aa_options.specs.Options.{Open, is_name, is_option};
+ghost use Rattle.aa_start.specs.Options.{Open, is_name, is_option};
 ghost use Rattle.aatry_arguments.specs.Arguments.{ForCheck, ForDiff, ForLog, ForReach, ForRules, ForSession, ForTest, ForWho, ForWhy, asked, asked_by_first};
-ghost use Rattle.aa_options.specs.Options.{ForThis, Nothing, asked_as};
+ghost use Rattle.aa_start.specs.Options.{ForThis, Nothing, asked_as};
 ghost use Rattle.aatry_arguments.specs.AskingWords.{asked_words, asking_with};
 ghost use Rattle.aatry_arguments.specs.CheckWords.{CheckAsked, asked_behind, asked_check, below, check_with, with_names};
-ghost use Rattle.aa_options.specs.Options as diff;
+ghost use Rattle.aa_start.specs.Options as diff;
 ghost use Rattle.aatry_arguments.specs.DiffAllWords.{all_flag};
 ghost use Rattle.aatry_arguments.specs.DiffWords.{DiffGiven, LogAt, OfLog, OfQuestions, QuestionsAt};
 ghost use Rattle.aatry_arguments.specs.DiffWords.{asked_by, comparison_with, given_behind, stat_flag, with_folders, with_path};
@@ -22,7 +22,7 @@ ghost use Rattle.aatry_arguments.specs.RulesWords.{asked_rules, included_flag, r
 ghost use Rattle.aatry_arguments.specs.SessionWords.{session_with};
 ghost use Rattle.aatry_arguments.specs.TestWords.{accept_flag, test_with};
 ghost use Rattle.aatry_arguments.specs.Values.{IsWithout, ValueOption, value_in};
-ghost use Rattle.aatry_times.specs.Named.{time_named};
+ghost use Rattle.aatry_words.specs.Named.{time_named};
 
 /// `check` alone asks for all files at the top of /etc/apparmor.d. Words behind it that are no options are its NAMEs, all of them and in their
 /// order, and so are all words behind `--`. Behind `-b` and a folder each word asks for what it would ask for without them, of that folder; so of

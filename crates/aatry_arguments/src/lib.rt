@@ -23,7 +23,7 @@ mod session_words;
 mod test_words;
 mod values;
 
-pub use aa_options::ArgumentFault;
+pub use aa_start::ArgumentFault;
 pub use arguments::{
     AllPaths, Asking, Call, Check, Command, Comparison, LogLines, LogTelling, Logs, PathComparison,
     Reach, RequestSource, RulesCheck, Session, Test,

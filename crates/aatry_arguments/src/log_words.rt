@@ -1,7 +1,7 @@
 //! Reading of the words behind `log`: but for what `log` alone has, as those behind `check` are read.
 ghost use Rattle.std.specs.Prelude.{◌≡◌, IfOk, map, option_map, string_bytes};
-ghost use Rattle.aa_options.specs.Given.{IsGivenFor};
-ghost use Rattle.aa_options.specs.Options.{ForThis, asked_then};
+ghost use Rattle.aa_start.specs.Given.{IsGivenFor};
+ghost use Rattle.aa_start.specs.Options.{ForThis, asked_then};
 ghost use Rattle.aatry_arguments.specs.CheckWords.{asked_check};
 ghost use Rattle.aatry_arguments.specs.Given.{meant_check, meant_lines, meant_logs, meant_telling};
 ghost use Rattle.aatry_arguments.specs.LogWords.{asked_logs, asked_named, logs_of, named_in, named_with, since_of, telling_in, without_flags};
@@ -13,8 +13,8 @@ use crate::check_words::check_of;
 use crate::faults::passed_on;
 use crate::flags::{is_given, without_flag};
 use crate::values::{NamedOption, WithValue, value_of};
-use aa_options::ArgumentFault;
-use aatry_times::time_named;
+use aa_start::ArgumentFault;
+use aatry_words::time_named;
 use std::alloc::{AllocError, Global};
 
 // The flag that asks for a status that tells of lines without an answer.
@@ -202,7 +202,7 @@ fn logs_named(alloc: Global, named: LogNamed) -> Result<Logs, ArgumentFault>
 ///
 /// # Errors
 ///
-/// - `Bad` where `--profile` or `--since` has no value, or that of `--since` names no time (`aatry_times::time_named`).
+/// - `Bad` where `--profile` or `--since` has no value, or that of `--since` names no time (`aatry_words::time_named`).
 /// - Those of `check_of`, of the words without the options that `log` alone has.
 #[tactic(auto, unfolding(crate::specs::LogWords::asked_logs))]
 pub fn logs_of(alloc: Global, words: &[String]) -> Result<Logs, ArgumentFault>

@@ -1,7 +1,7 @@
 //! Reading of the words behind `never` and `always`: but for what these alone have, as those behind `check` are read.
 ghost use Rattle.std.specs.Prelude.{◌≡◌, IfOk, map, option_map, string_bytes};
-ghost use Rattle.aa_options.specs.Given.{IsGivenFor};
-ghost use Rattle.aa_options.specs.Options.{asked_then};
+ghost use Rattle.aa_start.specs.Given.{IsGivenFor};
+ghost use Rattle.aa_start.specs.Options.{asked_then};
 ghost use Rattle.aatry_arguments.specs.AskingWords.{asked_words};
 ghost use Rattle.aatry_arguments.specs.Given.{meant_asking, meant_paths};
 ghost use Rattle.aatry_arguments.specs.PathsWords.{asked_limited, asked_paths, limit_of, limited_by, limited_in, paths_of};
@@ -12,8 +12,8 @@ use crate::arguments::{AllPaths, Asking};
 use crate::asking_words::asked_words;
 use crate::flags::{is_given, without_flag};
 use crate::values::{NamedOption, WithValue, value_of};
-use aa_options::ArgumentFault;
-use aatry_times::number_of;
+use aa_start::ArgumentFault;
+use aatry_words::number_of;
 use std::alloc::{AllocError, Global};
 
 // The flag that asks for names alone.

@@ -1,7 +1,7 @@
 //! Reading of the words behind `reach`: but for what that alone has, as those behind `check` are read.
 ghost use Rattle.std.specs.Prelude.{map, string_bytes};
-ghost use Rattle.aa_options.specs.Given.{IsGivenFor};
-ghost use Rattle.aa_options.specs.Options.{asked_then};
+ghost use Rattle.aa_start.specs.Given.{IsGivenFor};
+ghost use Rattle.aa_start.specs.Options.{asked_then};
 ghost use Rattle.aatry_arguments.specs.AskingWords.{asked_words};
 ghost use Rattle.aatry_arguments.specs.Given.{meant_asking, meant_reach};
 ghost use Rattle.aatry_arguments.specs.ReachWords.{asked_limited, asked_reach, reach_of};
@@ -11,7 +11,7 @@ use crate::arguments::Reach;
 use crate::asking_words::asked_words;
 use crate::flags::{is_given, without_flag};
 use crate::paths_words::{PathsLimited, limited_in};
-use aa_options::ArgumentFault;
+use aa_start::ArgumentFault;
 use std::alloc::Global;
 
 // The flag that asks for a graph.

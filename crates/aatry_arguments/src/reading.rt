@@ -1,7 +1,7 @@
 //! Reading of the arguments: which command is meant, and its words.
 ghost use Rattle.std.specs.Prelude.{map, string_bytes};
 ghost use Rattle.aatry_arguments.specs.Arguments.{asked, asked_by_first};
-ghost use Rattle.aa_options.specs.Given.{IsGivenFor};
+ghost use Rattle.aa_start.specs.Given.{IsGivenFor};
 ghost use Rattle.aatry_arguments.specs.Given.{IsVersion, meant_command};
 
 use crate::arguments::Command;
@@ -14,7 +14,7 @@ use crate::reach_words::reach_of;
 use crate::rules_words::checks_of;
 use crate::session_words::session_of;
 use crate::test_words::test_of;
-use aa_options::{ArgumentFault, VERSION};
+use aa_start::{ArgumentFault, VERSION};
 use std::alloc::Global;
 
 // What help says of the program.

@@ -1,7 +1,7 @@
 //! Reading of the words behind `check`: for rules that decide nothing where the flag `--rules` is among them, and else for a check of files.
 ghost use Rattle.std.specs.Prelude.{map, string_bytes};
-ghost use Rattle.aa_options.specs.Given.{IsGivenFor};
-ghost use Rattle.aa_options.specs.Options.{asked_then};
+ghost use Rattle.aa_start.specs.Given.{IsGivenFor};
+ghost use Rattle.aa_start.specs.Options.{asked_then};
 ghost use Rattle.aatry_arguments.specs.Arguments.{asked_checks};
 ghost use Rattle.aatry_arguments.specs.CheckWords.{asked_check};
 ghost use Rattle.aatry_arguments.specs.Given.{meant_command, meant_rules};
@@ -12,7 +12,7 @@ use crate::arguments::{Command, RulesCheck};
 use crate::check_words::check_of;
 use crate::flags::{is_given, without_flag};
 use crate::paths_words::{PathsLimited, limited_in};
-use aa_options::ArgumentFault;
+use aa_start::ArgumentFault;
 use std::alloc::Global;
 
 // The flag that asks for rules that decide nothing.

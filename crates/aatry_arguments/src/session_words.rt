@@ -1,13 +1,13 @@
 //! Reading of the words behind `session`: as those behind `check` are read.
 ghost use Rattle.std.specs.Prelude.{map, string_bytes};
-ghost use Rattle.aa_options.specs.Given.{IsGivenFor};
+ghost use Rattle.aa_start.specs.Given.{IsGivenFor};
 ghost use Rattle.aatry_arguments.specs.Given.{meant_check, meant_session};
 ghost use Rattle.aatry_arguments.specs.SessionWords.{asked_session, session_of};
 
 use crate::arguments::{Check, Session};
 use crate::check_words::check_of;
 use crate::faults::passed_on;
-use aa_options::ArgumentFault;
+use aa_start::ArgumentFault;
 use std::alloc::Global;
 
 // What help says of `session`.

@@ -1,7 +1,7 @@
 //! Reading of the words behind `test`: but for the flag that `test` alone has, as those behind `check` are read.
 ghost use Rattle.std.specs.Prelude.{map, string_bytes};
-ghost use Rattle.aa_options.specs.Given.{IsGivenFor};
-ghost use Rattle.aa_options.specs.Options.{asked_then};
+ghost use Rattle.aa_start.specs.Given.{IsGivenFor};
+ghost use Rattle.aa_start.specs.Options.{asked_then};
 ghost use Rattle.aatry_arguments.specs.CheckWords.{asked_check};
 ghost use Rattle.aatry_arguments.specs.Given.{meant_check, meant_test};
 ghost use Rattle.aatry_arguments.specs.TestWords.{asked_test, test_of};
@@ -10,7 +10,7 @@ use crate::arguments::{Check, Test};
 use crate::check_words::check_of;
 use crate::faults::passed_on;
 use crate::flags::{is_given, without_flag};
-use aa_options::ArgumentFault;
+use aa_start::ArgumentFault;
 use std::alloc::Global;
 
 // The flag that asks for what is told to be accepted.

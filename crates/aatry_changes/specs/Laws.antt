@@ -1,11 +1,11 @@
 -- What the laws on changes speak of: parts that are alike, and that answer alike; and where a change is told.
 use Rattle.std.specs.Prelude.{◌≡◌, ◌<◌, ◌^◌, ◌⊎◌, ℕ, Bool, true, false, List, [], ◌∷◌, Some}
 use Rattle.std.specs.List.{All, Contains}
-use Rattle.aa_decide_exec_rules.specs.Choices.{choice}
+use Rattle.aa_decide_rules.specs.Choices.{choice}
 use Rattle.aa_decide_rules.specs.Verdict.{verdict}
-use Rattle.aa_decide_rules.specs.declared.verdict.Mediation.{Mediation}
+use Rattle.aa_decide_rules.specs.declared.judgement.Mediation.{Mediation}
 use Rattle.aa_explain_diff.specs.Features.{Feature, are_alike}
-use Rattle.aa_profile_access.specs.Request.{Request}
+use Rattle.aa_profile_data.specs.Request.{Request}
 use Rattle.aa_profile_data.specs.ConflictLaws.{HasReadPattern}
 use Rattle.aa_profile_data.specs.Conflicts.{agree}
 use Rattle.aatry_changes.specs.Folded.{is_own, own_features}

@@ -1,7 +1,7 @@
 //! The check of a folder of policy on a disk.
 
 ghost use Rattle.std.specs.Prelude.{◌≡◌, [], IfErr, IfOk, map, string_bytes};
-ghost use Rattle.aaset_start.specs.Gathering.{texts_of};
+ghost use Rattle.aa_start.specs.Gathering.{texts_of};
 ghost use Rattle.aatry_check.specs.Below.{IsChecked, meant};
 ghost use Rattle.aatry_check.specs.Checks.{TellsEach, refused_count};
 ghost use Rattle.aatry_folder.specs.Loadings.{file_names, seen_top};
@@ -10,8 +10,8 @@ ghost use Rattle.aatry_check.specs.Ends.{IsEndOfCheck};
 
 use crate::checked::check;
 use aa_profile::Language;
+use aa_start::{FileSystem, UnreadFault};
 use aa_text_files::Files;
-use aaset_start::{FileSystem, UnreadFault};
 use aatry_arguments::Check;
 use aatry_folder::{Fault, Folders, PolicyFolder, Report, TopFile, policy_below};
 use aatry_report::Teller;

@@ -1,7 +1,7 @@
 //! The records of files that are refused.
 
 ghost use Rattle.std.specs.Prelude.{◌≡◌, Some, IfOk, OnOk};
-ghost use Rattle.aa_profile_errors.specs.ProfileError.{number_of};
+ghost use Rattle.aa_profile_parsing.specs.ProfileError.{number_of};
 ghost use Rattle.aa_text_files.specs.Files.{bytes_at, name_at};
 ghost use Rattle.aatry_check.specs.Checks.{refusal_record, with_earlier, with_included, with_refusal};
 ghost use Rattle.aatry_report.specs.Faults.{with_fault};

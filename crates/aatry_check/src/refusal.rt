@@ -1,7 +1,7 @@
 //! What is told of a file that is refused.
 
 ghost use Rattle.std.specs.Prelude.{◌≡◌, ◌++◌, OnOk};
-ghost use Rattle.aa_profile_errors.specs.ProfileError.{number_of};
+ghost use Rattle.aa_profile_parsing.specs.ProfileError.{number_of};
 ghost use Rattle.aatry_check.specs.Checks.{earlier_lines, included_line, included_lines, refusal_lines};
 ghost use Rattle.aatry_refusal_words.specs.Naming.{words_at};
 ghost use Rattle.aatry_report.specs.declared.form.Form.TheVariants as form;

@@ -1,16 +1,16 @@
 //! What is told of a file that is refused since it wasn't read, or one that it includes.
 
 ghost use Rattle.std.specs.Prelude.{◌≡◌, ◌++◌, IfOk, OnOk};
-ghost use Rattle.aa_profile_errors.specs.ProfileError.{number_of};
-ghost use Rattle.aaset_start.specs.Readable.{unread_in};
+ghost use Rattle.aa_profile_parsing.specs.ProfileError.{number_of};
+ghost use Rattle.aa_start.specs.Readable.{unread_in};
 ghost use Rattle.aatry_check.specs.Checks.{told_refusal, unread_lines, unread_record, unread_text};
 ghost use Rattle.aatry_refusal_words.specs.Naming.{words_at};
 ghost use Rattle.aatry_report.specs.SeenRecord.{seen_record};
 
 use crate::records::put_included;
 use crate::refusal::{Refused, push_included, push_refusal};
+use aa_start::{UnreadFault, unread_in};
 use aa_text_files::Files;
-use aaset_start::{UnreadFault, unread_in};
 use aatry_report::{Form, Record, Teller, path_below, push_fault, put_fault};
 use std::alloc::{AllocError, Global};
 

@@ -3,9 +3,9 @@ use Rattle.std.specs.Prelude.{◌≡◌, ℕ, Bool, not, ◌||◌, List, ◌++�
 use Rattle.std.specs.List.{list_any}
 use Rattle.aa_profile_parsing.specs.declared.language.Language.{Language}
 use Rattle.aa_text_files.specs.Files.{File}
-use Rattle.aaset_start.specs.Gathering.{names_of}
-use Rattle.aaset_start.specs.Known.{Known}
-use Rattle.aaset_start.specs.declared.readable.UnreadFault.{UnreadFault}
+use Rattle.aa_start.specs.Gathering.{names_of}
+use Rattle.aa_start.specs.Known.{Known}
+use Rattle.aa_start.specs.declared.readable.UnreadFault.{UnreadFault}
 use Rattle.aatry_arguments.specs.CheckWords.{CheckAsked}
 use Rattle.aatry_folder.specs.Loadings.{AreTop, TopFile}
 use Rattle.aatry_folder.specs.PolicyFolders.{AreBelow, tried_names}
@@ -13,16 +13,16 @@ use Rattle.aatry_folder.specs.Reports.{failed_by}
 use Rattle.aatry_folder.specs.Told.{ToldFolders}
 use Rattle.aatry_folder.specs.Unread.{IsOfFolder}
 use Rattle.aatry_folder.specs.declared.fault.Fault.{Fault}
-use Rattle.aatry_never.specs.Never.{PathsReport}
+use Rattle.aatry_claims.specs.Never.{PathsReport}
 use Rattle.aatry_policy.specs.FolderParts.{FolderParts, by_parts}
 use Rattle.aatry_policy.specs.Folders.{Folder, below, folder_at, left_out_in, left_out_note, seen_folder}
 use Rattle.aatry_policy.specs.Parts.{set_parts}
 use Rattle.aatry_policy.specs.declared.folder.LoadedFolder.{LoadedFolder}
 use Rattle.aatry_report.specs.declared.form.Form.{Form}
-use Rattle.aatry_redundant_rules.specs.Finding.{AreFound, Found, is_absent, parts_asked, some_many, some_told}
+use Rattle.aatry_check_rules.specs.Finding.{AreFound, Found, is_absent, parts_asked, some_many, some_told}
 use Rattle.aatry_check_rules.specs.Summary.{summary_text}
 use Rattle.aatry_check_rules.specs.Telling.{absents_text, all_text}
-use Rattle.aatry_redundant_rules.specs.Written.{Which}
+use Rattle.aatry_check_rules.specs.Written.{Which}
 use Rattle.aatry_check_rules.specs.declared.below.RulesHow.{RulesHow}
 
 -- which written rules of a folder are tried

@@ -8,7 +8,7 @@ use Rattle.aatry_policy.specs.Parts.{Part}
 use Rattle.aatry_report.specs.Records.{record_line, record_of, with_number}
 use Rattle.aatry_report.specs.declared.form.Form.{Form}
 use Rattle.aatry_report.specs.declared.form.Form.TheVariants.{Lines, Records}
-use Rattle.aatry_redundant_rules.specs.Finding.{Found, is_absent, is_many}
+use Rattle.aatry_check_rules.specs.Finding.{Found, is_absent, is_many}
 use Rattle.aatry_check_rules.specs.Telling.{decide_word, rules_word}
 use Rattle.aatry_check_rules.specs.declared.summary.Counts.{Counts}
 

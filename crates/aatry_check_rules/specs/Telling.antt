@@ -18,8 +18,8 @@ use Rattle.aatry_report.specs.declared.form.Form.{Form}
 use Rattle.aatry_report.specs.declared.form.Form.TheVariants.{Lines, Records}
 use Rattle.aatry_shared.specs.PartFeatures.{place_at}
 use Rattle.aatry_why_lines.specs.Lines.{where_text, with_where}
-use Rattle.aatry_redundant_rules.specs.Finding.{Found, is_absent}
-use Rattle.aatry_redundant_rules.specs.declared.finding.RedundantRule.{RedundantRule}
+use Rattle.aatry_check_rules.specs.Finding.{Found, is_absent}
+use Rattle.aatry_check_rules.specs.declared.finding.RedundantRule.{RedundantRule}
 
 -- the rule of a number of a part, with where it stands, to the end of its line
 unfoldable pub placed_line : PolicyFiles → Part → ℕ → Rule → List ℕ

@@ -3,20 +3,21 @@
 ghost use Rattle.std.specs.Prelude.{◌≡◌, ◌++◌, IfErr, IfOk, OnOk, map, string_bytes};
 ghost use Rattle.aatry_arguments.specs.Given.{meant_check};
 ghost use Rattle.aatry_check_rules.specs.Below.{AreRulesChecked, AreRulesIn, AreRulesTold, IsEndOfRules, checked_text, seen_loaded};
-ghost use Rattle.aatry_redundant_rules.specs.Finding.{seen_found};
-ghost use Rattle.aatry_never.specs.Never.{seen_paths_report};
+ghost use Rattle.aatry_check_rules.specs.Finding.{seen_found};
+ghost use Rattle.aatry_claims.specs.Never.{seen_paths_report};
 ghost use Rattle.aatry_policy.specs.FolderParts.{seen_folder as seen_parts};
 ghost use Rattle.aatry_policy.specs.Folders.{seen_folder};
 
+use crate::finding::{Found, Question, find, has_absent, some_many, some_told};
 use crate::summary::push_summary;
 use crate::telling::{push_absents, push_all};
+use crate::trying::Which;
 use aa_profile_parsing::Language;
-use aaset_start::FileSystem;
+use aa_start::FileSystem;
 use aatry_arguments::Check;
+use aatry_claims::PathsReport;
 use aatry_folder::{Fault, Folders, PolicyFolder, Report, failed_by, policy_below};
-use aatry_never::PathsReport;
 use aatry_policy::{FolderParts, LoadedFolder, by_parts, load_folder, parts_of};
-use aatry_redundant_rules::{Found, Question, Which, find, has_absent, some_many, some_told};
 use aatry_report::Teller;
 use std::alloc::{AllocError, Global};
 

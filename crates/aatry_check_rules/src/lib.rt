@@ -1,9 +1,20 @@
-//! The command `check --rules`: tells the written rules of a folder of policy that decide nothing, each with why.
+//! The command `check --rules`: finds the written rules of profiles, children and hats of a folder of policy that decide nothing, each with an example of
+//! what it matches, and tells them, each with why.
 #![tactic(auto)]
 
 mod below;
+mod finding;
+mod laws;
+mod numbers;
 mod rules_told;
 mod summary;
 mod telling;
+mod trying;
 
 pub use below::{RulesHow, check_rules_folder};
+pub use finding::{
+    Found, Question, RedundantRule, find, has_absent, is_absent, is_many, some_many, some_told,
+};
+pub use laws::numbers_tell_written_rules;
+pub use numbers::place_at;
+pub use trying::Which;

@@ -8,12 +8,13 @@ ghost use Rattle.aatry_policy.specs.SeenProfiles.{seen_part};
 ghost use Rattle.aatry_report.specs.Records.{record_line};
 ghost use Rattle.aatry_report.specs.SeenRecord.{seen_record};
 
+use crate::finding::RedundantRule;
+use crate::numbers::place_at;
 use aa_explain_redundant::{Example, Overlap};
 use aa_profile_data::Rule;
 use aa_set_answers::push_rule;
 use aatry_changes::headed_record;
 use aatry_policy::Part;
-use aatry_redundant_rules::{RedundantRule, place_at};
 use aatry_report::{Form, Record, Teller, push_shown};
 use aatry_why_lines::{Finder, push_where, put_where};
 use std::alloc::{AllocError, Global};

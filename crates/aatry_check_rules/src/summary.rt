@@ -2,14 +2,14 @@
 
 ghost use Rattle.std.specs.Prelude.{◌≡◌, ◌≤◌, ◌++◌, IfOk, OnOk, count_by, length, map};
 ghost use Rattle.std.specs.List.{sum_by};
-ghost use Rattle.aatry_redundant_rules.specs.Finding.{is_absent, is_many, seen_found};
+ghost use Rattle.aatry_check_rules.specs.Finding.{is_absent, is_many, seen_found};
 ghost use Rattle.aatry_check_rules.specs.Summary.{counts_of, share, summary_by, summary_line, summary_record, summary_text, told_in, told_words, tried_in};
 ghost use Rattle.aatry_policy.specs.SeenProfiles.{seen_part};
 ghost use Rattle.aatry_report.specs.SeenRecord.{seen_record};
 
+use crate::finding::{Found, is_absent, is_many};
 use crate::telling::{decide_word, rules_word};
 use aatry_policy::Part;
-use aatry_redundant_rules::{Found, is_absent, is_many};
 use aatry_report::{Form, Record, Teller, push_number};
 use std::alloc::{AllocError, Global};
 

@@ -1,16 +1,16 @@
 //! What is told of profiles, children and hats with written rules that decide nothing.
 
 ghost use Rattle.std.specs.Prelude.{◌≡◌, ◌++◌, ◌∷◌, [], OnOk, filter, flat_map, map};
-ghost use Rattle.aatry_redundant_rules.specs.Finding.{is_absent, seen_found};
+ghost use Rattle.aatry_check_rules.specs.Finding.{is_absent, seen_found};
 ghost use Rattle.aatry_check_rules.specs.Telling.{absent_line, absent_text, absents_text, all_text, decide_word, found_text, heading_line, heading_text, many_word, part_told, rules_word};
 ghost use Rattle.aatry_folder.specs.PolicyFiles.{seen_files};
 ghost use Rattle.aatry_policy.specs.SeenProfiles.{seen_part};
 
+use crate::finding::{Found, RedundantRule, is_absent};
 use crate::rules_told::push_rules;
 use aatry_changes::{headed_record, push_headed};
 use aatry_folder::PolicyFiles;
 use aatry_policy::Part;
-use aatry_redundant_rules::{Found, RedundantRule, is_absent};
 use aatry_report::{Form, Teller, push_number, push_shown};
 use aatry_why_lines::Finder;
 use std::alloc::AllocError;

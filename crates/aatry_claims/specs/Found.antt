@@ -4,7 +4,7 @@ use Rattle.std.specs.Option.{option_map}
 use Rattle.aa_explain_paths.specs.Answers.{Asked, IsAnswer}
 use Rattle.aa_explain_paths.specs.declared.question.Claim.{Claim}
 use Rattle.aa_explain_paths.specs.declared.question.PathAnswer.{PathAnswer}
-use Rattle.aa_profile_access.specs.Access.{all_letters}
+use Rattle.aa_profile_data.specs.Access.{all_letters}
 use Rattle.aa_profile_data.specs.declared.profile.Mode.{Mode}
 use Rattle.aa_profile_data.specs.declared.profile.Mode.TheVariants as mode
 use Rattle.aa_profile_data.specs.declared.profile.Rank.TheVariants.{Loose}

@@ -1,6 +1,6 @@
 -- Letters in words: what they let do.
 use Rattle.std.specs.Prelude.{ℕ, ◌==◌, if◌then◌else◌, List, [], ◌++◌, codes}
-use Rattle.aa_profile_access.specs.Access.{APPEND, EXEC, LINK, LOCK, MAP, READ, WRITE, common}
+use Rattle.aa_profile_data.specs.Access.{APPEND, EXEC, LINK, LOCK, MAP, READ, WRITE, common}
 
 -- the word of a letter, if it is among some, and ahead of it what stands between two, if an earlier letter is among them
 abbrev pub word_of : ℕ → ℕ → ℕ → List ℕ → List ℕ → List ℕ

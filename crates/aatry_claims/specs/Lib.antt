@@ -1,7 +1,10 @@
 pub mod Claimed
+pub mod Ends
 pub mod Found
 pub mod Letters
+pub mod Never
 pub mod Patterns
 pub mod SeenClaimed
 pub mod Sentences
+pub mod Telling
 pub mod Words

@@ -4,7 +4,7 @@ use Rattle.std.specs.Option.{option_and_then}
 use Rattle.std.specs.Str.{bytes_eq}
 use Rattle.aa_explain_paths.specs.declared.question.Whose.{Whose}
 use Rattle.aa_explain_paths.specs.declared.question.Whose.TheVariants.{Any, Other, Owner}
-use Rattle.aa_profile_access.specs.Access.{common, told_bit, union}
+use Rattle.aa_profile_data.specs.Access.{common, told_bit, union}
 use Rattle.aatry_claims.specs.declared.words.PathWords.{PathWords as CodeWords}
 
 -- what such words say

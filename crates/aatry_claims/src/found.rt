@@ -7,8 +7,7 @@ ghost use Rattle.aatry_policy.specs.SeenProfiles.{seen_part};
 
 use aa_explain_paths::{PathAnswer, PathQuestion, ask_all_paths};
 use aa_glob_pattern::Pattern;
-use aa_profile_access::Perms;
-use aa_profile_data::{FileRule, Mode, Rank, Rule};
+use aa_profile_data::{FileRule, Mode, Perms, Rank, Rule};
 use aatry_policy::{Part, part_of};
 use bitflags::Flags;
 use std::alloc::{AllocError, Global};

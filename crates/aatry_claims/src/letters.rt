@@ -3,7 +3,7 @@
 ghost use Rattle.std.specs.Prelude.{◌≡◌, ◌++◌, OnOk};
 ghost use Rattle.aatry_claims.specs.Letters.{letter_words, word_of};
 
-use aa_profile_access::Perms;
+use aa_profile_data::Perms;
 use bitflags::Flags;
 use std::alloc::AllocError;
 

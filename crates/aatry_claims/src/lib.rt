@@ -1,17 +1,23 @@
-//! Claims about all paths: their words, the patterns that are meant, what profiles, children and hats are answered, and the line that tells it.
+//! Claims about all paths: their words, the patterns that are meant, what profiles, children and hats are answered; and the commands `never` and `always`,
+//! which tell it of a folder, with a path that says otherwise, and the rules behind that.
 #![tactic(auto)]
 
 mod breaking;
+mod faults;
 mod found;
 mod letters;
 mod lines;
+mod never;
 mod patterns;
 mod sentences;
+mod telling;
 mod words;
 
 pub use breaking::{Claimed, breaking_of};
+pub use faults::paths_fault;
 pub use found::{Finding, Found, Inquiry, asks_rules, every_rule, find};
 pub use lines::{is_held, is_undecided, push_line};
+pub use never::{PathsReport, paths_folder};
 pub use patterns::asked_patterns;
 pub use sentences::{answer_word, owner_word};
 pub use words::{PathWords, letters_of, path_words, whose_of};

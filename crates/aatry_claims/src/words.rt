@@ -4,7 +4,7 @@ ghost use Rattle.std.specs.Prelude.{◌≡◌, ◌<◌, map, option_map};
 ghost use Rattle.aatry_claims.specs.Words.{letter_of, letters_of, path_words, seen_words, whose_of, with_letter};
 
 use aa_explain_paths::Whose;
-use aa_profile_access::Perms;
+use aa_profile_data::Perms;
 use bitflags::Flags;
 
 /// What the words of a question about all paths say.

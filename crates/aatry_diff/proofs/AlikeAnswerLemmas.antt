@@ -7,22 +7,22 @@ use Rattle.std.specs.Option.{option_map}
 use Rattle.std.specs.Str.{bytes_eq}
 use Rattle.aa_bytes.specs.Quoting.{written_text}
 use Rattle.aa_decide.specs.Exec.{Asker, Base, ExecAnswer, Nowhere, Null, OnProfile, OnUnconfined, Stacked, Started, Unconfined, Under, exec_answer, named_asker}
-use Rattle.aa_decide_audit.specs.LogLines.{exec_line}
-use Rattle.aa_decide_audit.specs.declared.verdict.Answer.{Answer}
-use Rattle.aa_decide_audit.specs.declared.verdict.Verdict.{Verdict}
-use Rattle.aa_decide_rules.specs.declared.verdict.Mediation.{Mediation}
-use Rattle.aa_decide_rules.specs.declared.verdict.Mediation.TheVariants.{Complaining, Enforcing}
-use Rattle.aa_decide_slots.specs.Confinement.{confined, in_state, mode_at}
-use Rattle.aa_decide_slots.specs.Entries.{Loaded}
+use Rattle.aa_decide_rules.specs.LogLines.{exec_line}
+use Rattle.aa_decide_rules.specs.declared.verdict.Answer.{Answer}
+use Rattle.aa_decide_rules.specs.declared.verdict.Verdict.{Verdict}
+use Rattle.aa_decide_rules.specs.declared.judgement.Mediation.{Mediation}
+use Rattle.aa_decide_rules.specs.declared.judgement.Mediation.TheVariants.{Complaining, Enforcing}
+use Rattle.aa_decide_ready.specs.Confinement.{confined, in_state, mode_at}
+use Rattle.aa_decide_ready.specs.Entries.{Loaded}
 use Rattle.aa_decide_ready.specs.Ready.{decided}
 use Rattle.aa_decide_ready.specs.Sections.{section_at}
-use Rattle.aa_decide_slots.specs.declared.entry.State.{State}
-use Rattle.aa_decide_slots.specs.declared.entry.State.TheVariants.{Disabled, Modes}
+use Rattle.aa_decide_ready.specs.declared.entry.State.{State}
+use Rattle.aa_decide_ready.specs.declared.entry.State.TheVariants.{Disabled, Modes}
 use Rattle.aa_explain.specs.AlikePolicies.{AreAlikePolicies, AreConfinedAlike, AreThereAlike, AskAlike, HaveOneName, HaveReadRules, RunAlike}
 use Rattle.aa_explain.specs.AlikePolicies.{StandAlike, StartAlike, mode_in}
 use Rattle.aa_explain.specs.NamedAskers.{IsChildNamed, IsNamed}
-use Rattle.aa_profile_access.specs.FullNames.{FullName, full_name}
-use Rattle.aa_profile_access.specs.Request.{Request}
+use Rattle.aa_profile_data.specs.FullNames.{FullName, full_name}
+use Rattle.aa_profile_data.specs.Request.{Request}
 use Rattle.aa_profile_data.specs.declared.profile.Mode.{Mode}
 use Rattle.aa_profile_data.specs.declared.profile.Mode.TheVariants.{Complain as InComplain, Enforce as InEnforce, Unconfined as InUnconfined}
 use Rattle.aa_profile_data.specs.declared.profile.Profile.{Profile}

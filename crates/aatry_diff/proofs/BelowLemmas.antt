@@ -1,8 +1,8 @@
 -- What a comparison of two folders that were read comes to, by their paths.
 use Rattle.std.proofs.Common.{◌≡◌, Bool, Option, ◌∙◌}
 use Rattle.aa_profile_parsing.specs.declared.language.Language.{Language}
-use Rattle.aaset_start.specs.Gathering.{names_of}
-use Rattle.aaset_start.specs.Known.{Known}
+use Rattle.aa_start.specs.Gathering.{names_of}
+use Rattle.aa_start.specs.Known.{Known}
 use Rattle.aatry_arguments.specs.DiffWords.{ComparisonAsked}
 use Rattle.aatry_diff.specs.Below.{IsComparedBelow, IsGathered}
 use Rattle.aatry_diff.specs.Comparing.{diff_notes, diff_text, is_unchanged}

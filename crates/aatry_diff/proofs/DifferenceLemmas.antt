@@ -1,7 +1,7 @@
 -- What is found of questions, one by one.
 use Rattle.std.proofs.Common.{◌≡◌, ℕ, zero, suc, ◌+◌, Bool, true, false, List, [], ◌∷◌, ◌++◌, drop, refl, ap, ◌∙◌, arith}
 use Rattle.std.specs.Prelude.{slice_get}
-use Rattle.aa_decide_slots.specs.Entries.{Loaded}
+use Rattle.aa_decide_ready.specs.Entries.{Loaded}
 use Rattle.aatry_requests.specs.Tallies.{Tally}
 use Rattle.aatry_diff.specs.Differing.{differences, differs}
 use Rattle.aatry_diff.specs.code.Steps.{difference_at, difference_if}

@@ -6,7 +6,7 @@ use Rattle.serde_json.specs.Data.{object}
 use Rattle.serde_json.specs.Written.{compact_text}
 use Rattle.aa_bytes.specs.Bytes.{line_feed}
 use Rattle.aa_bytes.specs.Texts.{is_empty}
-use Rattle.aa_decide_slots.specs.Entries.{Loaded}
+use Rattle.aa_decide_ready.specs.Entries.{Loaded}
 use Rattle.aatry_diff.specs.Differences.{causes, difference_lines, difference_text, question_record, times_text, told_differences, told_question}
 use Rattle.aatry_diff.specs.Differing.{Difference, difference_of, differing}
 use Rattle.aatry_diff.specs.Folders.{BothFolders}

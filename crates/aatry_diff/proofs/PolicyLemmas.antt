@@ -8,8 +8,8 @@ use Rattle.std.proofs.lemmas.Bool.{and_parts}
 use Rattle.std.proofs.lemmas.List.Elements.{All-contains, All-nil}
 use Rattle.std.proofs.lemmas.Option.{get_or_from_slice_get, slice_get_within}
 use Rattle.aa_decide.specs.Exec.{Asker, named_asker}
-use Rattle.aa_decide_slots.specs.Entries.{Loaded}
-use Rattle.aa_decide_slots.specs.Named.{have_distinct_names}
+use Rattle.aa_decide_ready.specs.Entries.{Loaded}
+use Rattle.aa_decide_ready.specs.Named.{have_distinct_names}
 use Rattle.aa_decide_ready.specs.Ready.{child_rules, rules_at}
 use Rattle.aa_decide_ready.specs.Visits.{attachments_at}
 use Rattle.aa_explain.specs.AlikePolicies.{AreAlikePolicies, AreConfinedAlike, AreThereAlike, HaveNamesApart, HaveReadRules}
@@ -18,7 +18,7 @@ use Rattle.aa_explain_diff.specs.Alike.{HaveSameHead, HaveSameTexts}
 use Rattle.aa_explain_diff.specs.Features.{are_alike as are_sections_alike}
 use Rattle.aa_explain_diff.specs.Sections.{Section}
 use Rattle.aa_profile.specs.ReadPatterns.{ChildHasReadPatterns, HasReadPatterns}
-use Rattle.aa_profile_access.specs.FullNames.{FullName, full_name}
+use Rattle.aa_profile_data.specs.FullNames.{FullName, full_name}
 use Rattle.aa_profile_data.specs.ConflictLaws.{HasReadPattern}
 use Rattle.aa_profile_data.specs.Conflicts.{agree, child_agrees, profile_agrees}
 use Rattle.aa_profile_data.specs.SameRules.{HaveSameRules}

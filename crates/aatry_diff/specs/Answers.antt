@@ -1,7 +1,7 @@
 -- The answer of a policy set to a question, as it is told where two policy sets are compared: what is told of it (docs/commands.md, "Questions"). The
 -- line that logs it doesn't make it another one.
 use Rattle.std.specs.Prelude.{ℕ, List, Result, Ok, Err, codes}
-use Rattle.aa_decide_slots.specs.Entries.{Loaded}
+use Rattle.aa_decide_ready.specs.Entries.{Loaded}
 use Rattle.aa_set_answers.specs.Answers.{answered}
 use Rattle.aa_set_answers.specs.declared.answers.Answered.{Answered}
 use Rattle.aa_set_commands.specs.Question.{Question}

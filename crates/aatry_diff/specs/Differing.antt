@@ -1,7 +1,7 @@
 -- Questions that two policy sets answer otherwise.
 use Rattle.std.specs.Prelude.{ℕ, Bool, not, List, filter, map}
 use Rattle.std.specs.Str.{bytes_eq}
-use Rattle.aa_decide_slots.specs.Entries.{Loaded}
+use Rattle.aa_decide_ready.specs.Entries.{Loaded}
 use Rattle.aatry_diff.specs.Answers.{answer}
 use Rattle.aatry_requests.specs.Tallies.{Tally}
 

@@ -1,6 +1,6 @@
 -- With which faults a comparison of two folders of policy may end.
 use Rattle.std.specs.Prelude.{◌≡◌, ◌⊎◌, ℕ, true, List, [], ◌∷◌, MatchOption, Option, Some}
-use Rattle.aaset_start.specs.Known.{Known}
+use Rattle.aa_start.specs.Known.{Known}
 use Rattle.aatry_arguments.specs.DiffWords.{ComparisonAsked, SourceAsked}
 use Rattle.aatry_diff.specs.Below.{path_of}
 use Rattle.aatry_folder.specs.OneFile.{IsFileAt}

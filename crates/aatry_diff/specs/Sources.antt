@@ -1,7 +1,7 @@
 -- Requests by the source that tells of them, where there is one.
 use Rattle.std.specs.Prelude.{ℕ, Bool, if◌then◌else◌, List, [], ◌++◌, Option, None, Some, length, option_map}
 use Rattle.std.specs.Borrow.{Bor}
-use Rattle.aa_decide_slots.specs.Entries.{Loaded}
+use Rattle.aa_decide_ready.specs.Entries.{Loaded}
 use Rattle.aatry_diff.specs.Differences.{difference_lines, told_differences}
 use Rattle.aatry_diff.specs.Differing.{Difference, differences}
 use Rattle.aatry_diff.specs.Folders.{BothFolders}

@@ -10,8 +10,8 @@ ghost use Rattle.aatry_folder.specs.Reports.{seen_report};
 
 use crate::comparing::diff;
 use aa_profile_parsing::Language;
+use aa_start::FileSystem;
 use aa_text_files::Files;
-use aaset_start::FileSystem;
 use aatry_arguments::{Comparison, RequestSource};
 use aatry_folder::{Fault, Folders, Report, file_at, policy_below};
 use aatry_logs::is_compressed;

@@ -3,7 +3,7 @@
 ghost use Rattle.std.specs.Prelude.{◌≡◌, ◌==◌, ◌&&◌, List, Option, length, true};
 ghost use Rattle.std.specs.List.{Contains};
 ghost use Rattle.aa_bytes.specs.Texts.{is_empty};
-ghost use Rattle.aa_decide_slots.specs.Entries.{Loaded};
+ghost use Rattle.aa_decide_ready.specs.Entries.{Loaded};
 ghost use Rattle.aatry_changes.specs.Changes.{change_lines};
 ghost use Rattle.aatry_changes.specs.Laws.{HasAnsweringAlike};
 ghost use Rattle.aatry_diff.specs.Comparing.{are_alike, both};

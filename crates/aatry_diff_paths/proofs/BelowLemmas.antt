@@ -1,13 +1,13 @@
 -- What a comparison of two folders comes to, by how they are loaded, and by their paths.
 use Rattle.std.proofs.Common.{◌≡◌, ℕ, Bool, List, subst}
 use Rattle.aa_profile_parsing.specs.declared.language.Language.{Language}
-use Rattle.aaset_start.specs.Gathering.{names_of}
-use Rattle.aaset_start.specs.Known.{Known}
+use Rattle.aa_start.specs.Gathering.{names_of}
+use Rattle.aa_start.specs.Known.{Known}
 use Rattle.aatry_arguments.specs.DiffAllWords.{PathComparisonAsked}
 use Rattle.aatry_folder.specs.Loadings.{AreTop}
 use Rattle.aatry_folder.specs.PolicyFolders.{AreBelow, tried_names}
 use Rattle.aatry_folder.specs.Told.{ToldFolders}
-use Rattle.aatry_never.specs.Never.{PathsReport}
+use Rattle.aatry_claims.specs.Never.{PathsReport}
 use Rattle.aatry_policy.specs.FolderParts.{FolderParts}
 use Rattle.aatry_policy.specs.Folders.{Folder, folder_at}
 use Rattle.aatry_report.specs.declared.form.Form.{Form}

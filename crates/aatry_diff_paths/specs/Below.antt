@@ -2,9 +2,9 @@
 use Rattle.std.specs.Prelude.{◌≡◌, ◌⊎◌, ℕ, Bool, not, List, ◌++◌, Option}
 use Rattle.aa_profile_parsing.specs.declared.language.Language.{Language}
 use Rattle.aa_text_files.specs.Files.{File}
-use Rattle.aaset_start.specs.Gathering.{names_of}
-use Rattle.aaset_start.specs.Known.{Known}
-use Rattle.aaset_start.specs.declared.readable.UnreadFault.{UnreadFault}
+use Rattle.aa_start.specs.Gathering.{names_of}
+use Rattle.aa_start.specs.Known.{Known}
+use Rattle.aa_start.specs.declared.readable.UnreadFault.{UnreadFault}
 use Rattle.aatry_arguments.specs.DiffAllWords.{PathComparisonAsked}
 use Rattle.aatry_folder.specs.Loadings.{AreTop, TopFile}
 use Rattle.aatry_folder.specs.PolicyFolders.{AreBelow, tried_names}
@@ -12,7 +12,7 @@ use Rattle.aatry_folder.specs.Reports.{failed_by}
 use Rattle.aatry_folder.specs.Told.{ToldFolders}
 use Rattle.aatry_folder.specs.Unread.{IsOfFolder}
 use Rattle.aatry_folder.specs.declared.fault.Fault.{Fault}
-use Rattle.aatry_never.specs.Never.{PathsReport}
+use Rattle.aatry_claims.specs.Never.{PathsReport}
 use Rattle.aatry_policy.specs.FolderParts.{FolderParts, by_parts}
 use Rattle.aatry_policy.specs.Folders.{Folder, below, folder_at, left_out_in, left_out_note, seen_folder}
 use Rattle.aatry_policy.specs.Parts.{set_parts}

@@ -2,9 +2,9 @@
 use Rattle.std.specs.Prelude.{ℕ, Bool, false, true, ◌==◌, if◌then◌else◌, List, [], ◌∷◌, ◌++◌, codes, flat_map, map, slice_get, Option, None, Some}
 use Rattle.serde_json.specs.Data.{Members}
 use Rattle.aa_bytes.specs.Bytes.{line_feed}
-use Rattle.aa_decide_audit.specs.Answer.{answer_word}
-use Rattle.aa_decide_audit.specs.declared.verdict.Tag.{Tag}
-use Rattle.aa_decide_audit.specs.declared.verdict.Verdict.{Verdict}
+use Rattle.aa_decide_rules.specs.Answer.{answer_word}
+use Rattle.aa_decide_rules.specs.declared.verdict.Tag.{Tag}
+use Rattle.aa_decide_rules.specs.declared.verdict.Verdict.{Verdict}
 use Rattle.aa_explain_changes.specs.Changes.{change_between}
 use Rattle.aa_explain_changes.specs.FileChanges.{RuleChange, seen_rule_change}
 use Rattle.aa_explain_changes.specs.Rules.{FileChange}
@@ -13,12 +13,12 @@ use Rattle.aa_explain_changes.specs.declared.change.Answers.{Answers}
 use Rattle.aa_explain_changes.specs.declared.change.Change.{Change}
 use Rattle.aa_explain_changes.specs.declared.change.Change.TheVariants.{Gained, Lost, Otherwise, Same}
 use Rattle.aa_explain_diff.specs.Features.{OfRule, same_state}
-use Rattle.aa_profile_access.specs.Access.{common, letters_of}
+use Rattle.aa_profile_data.specs.Access.{common, letters_of}
 use Rattle.aa_profile_data.specs.declared.profile.Mode.{Mode}
 use Rattle.aa_profile_data.specs.declared.profile.Rule.{Rule}
-use Rattle.aa_profile_tables.specs.Capabilities.{capability_name}
-use Rattle.aa_profile_tables.specs.Domains.{domain_name}
-use Rattle.aa_profile_tables.specs.Kinds.{kind_name}
+use Rattle.aa_profile_data.specs.Capabilities.{capability_name}
+use Rattle.aa_profile_data.specs.Domains.{domain_name}
+use Rattle.aa_profile_data.specs.Kinds.{kind_name}
 use Rattle.aatry_changes.specs.Changes.{gone_text, headed, headed_record}
 use Rattle.aatry_claims.specs.Sentences.{owner_word}
 use Rattle.aatry_policy.specs.FolderParts.{FolderParts}

@@ -4,9 +4,9 @@ ghost use Rattle.std.specs.Prelude.{◌≡◌, ◌++◌, IfOk, OnOk};
 ghost use Rattle.aatry_diff_paths.specs.Telling.{answer_text, answers_text, is_otherwise, log_text, mask_text, tells_logs, with_answers};
 ghost use Rattle.aatry_report.specs.SeenRecord.{seen_record};
 
-use aa_decide_audit::{Tag, Verdict};
+use aa_decide_rules::{Tag, Verdict};
 use aa_explain_changes::{Answers, Change, change_between};
-use aa_profile_access::Perms;
+use aa_profile_data::Perms;
 use aatry_report::Record;
 use bitflags::Flags;
 use std::alloc::{AllocError, Global};

@@ -1,15 +1,14 @@
 //! What is told of modes, capabilities and sockets.
 
 ghost use Rattle.std.specs.Prelude.{◌≡◌, ◌++◌, IfOk, OnOk, option_map};
-ghost use Rattle.aa_profile_tables.specs.Capabilities.{capability_name};
+ghost use Rattle.aa_profile_data.specs.Capabilities.{capability_name};
 ghost use Rattle.aatry_diff_paths.specs.Telling.{answers_text, capability_words, mode_line, mode_record, mode_text, modes_text, name_or, other_record, other_text, other_words, others_text, with_answers};
 ghost use Rattle.aatry_report.specs.Records.{record_line};
 ghost use Rattle.aatry_report.specs.SeenRecord.{seen_record};
 ghost use Rattle.aatry_shared.specs.PartFeatures.{state_text};
 
 use crate::answers::{push_answers, put_answers};
-use aa_profile_data::Mode;
-use aa_profile_tables::{capability_name, domain_name, kind_name};
+use aa_profile_data::{Mode, capability_name, domain_name, kind_name};
 use aa_set_answers::mode_word;
 use aatry_changes::headed_record;
 use aatry_path_changes::{Other, OtherChange, same_state};

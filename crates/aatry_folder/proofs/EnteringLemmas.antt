@@ -8,14 +8,14 @@ use Rattle.aa_text_files.specs.Files.{File, bytes_at, file_at}
 use Rattle.aa_text_files.specs.Limit.{most_bytes}
 use Rattle.aa_text_files.specs.declared.text_error.Place.{Place}
 use Rattle.aa_text_files.specs.declared.text_error.TextRefusal.TheVariants.{NoFile, TextTooBig, ZeroByte}
-use Rattle.aa_text_splicing.specs.Splicing.{Absent, Entered, Entering, Fault, Placed, Way, and_then, deepest, each, entered, included, refusal_of, spliced, target, tokens_of, walked, within}
+use Rattle.aa_text_tokens.specs.Splicing.{Absent, Entered, Entering, Fault, Placed, Way, and_then, deepest, each, entered, included, refusal_of, spliced, target, tokens_of, walked, within}
 use Rattle.aa_text_tokens.specs.Cut.{Seen, cut}
 use Rattle.aa_text_tokens.specs.declared.cut.CutRefusal.{CutRefusal}
 use Rattle.aa_text_tokens.specs.declared.cut.TokenKind.{TokenKind}
 use Rattle.aa_text_tokens.specs.declared.cut.TokenKind.TheVariants.{Include, Assign, Value, Quoted, Word, Comma, OpenBrace, CloseBrace}
-use Rattle.aaset_start.specs.Known.{Known}
-use Rattle.aaset_start.specs.Readable.{AreTakenSo, IsTakenSo, stand_in, unread_at}
-use Rattle.aaset_start.specs.declared.readable.UnreadFault.{UnreadFault}
+use Rattle.aa_start.specs.Known.{Known}
+use Rattle.aa_start.specs.Readable.{AreTakenSo, IsTakenSo, stand_in, unread_at}
+use Rattle.aa_start.specs.declared.readable.UnreadFault.{UnreadFault}
 use Rattle.aatry_folder.specs.Reaching.{Includes, Reaches}
 
 -- what is entered comes to a fault

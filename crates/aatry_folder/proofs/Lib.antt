@@ -1,10 +1,10 @@
 mod EnteringLemmas
-mod OneFileLemmas
-mod UnreadLemmas
 pub mod FoundLemmas
 pub mod ListingLemmas
 pub mod MemberLemmas
 pub mod MissingLemmas
+mod OneFileLemmas
 pub mod OrderLemmas
 pub mod StandingLemmas
 pub mod StepLemmas
+mod UnreadLemmas

@@ -17,7 +17,7 @@ use Rattle.aa_text_files.specs.Limit.{most_bytes}
 use Rattle.aa_text_files.specs.declared.text_error.Place.{Place}
 use Rattle.aa_text_files.specs.declared.text_error.TextRefusal.{TextRefusal}
 use Rattle.aa_text_files.specs.declared.text_error.TextRefusal.TheVariants.{NoFile, IncludeDepth, TextTooBig, ZeroByte}
-use Rattle.aa_text_splicing.specs.Splicing.{Absent, Entered, Entering, Fault, Nothing, Placed, Target, Way, and_then, deepest, each, entered, included, looked_up, of_members, refusal_of, spliced, target, tokens_of, walked, within, without}
+use Rattle.aa_text_tokens.specs.Splicing.{Absent, Entered, Entering, Fault, Nothing, Placed, Target, Way, and_then, deepest, each, entered, included, looked_up, of_members, refusal_of, spliced, target, tokens_of, walked, within, without}
 use Rattle.aatry_folder.specs.Includes.{IsMissing, IsMissingAsAWhole, Lacks}
 
 -- a fault that a file is missing has the place of the include that asks for it

@@ -3,7 +3,7 @@ use Rattle.std.proofs.Common.{◌≡◌, ℕ, List, [], ◌∷◌, ap, subst}
 use Rattle.std.specs.List.{All}
 use Rattle.std.proofs.lemmas.List.Elements.{All-head}
 use Rattle.aa_text_files.specs.Files.{File}
-use Rattle.aaset_start.specs.Gathering.{names_of}
+use Rattle.aa_start.specs.Gathering.{names_of}
 
 -- the one file of some, by its name
 pub one_file : (P : File → Type 0) (files : List File) (name : List ℕ) → names_of files ≡ name ∷ [] → All P files → (bytes : List ℕ) × (files ≡ (name, bytes) ∷ []) × P (name, bytes)

@@ -6,8 +6,8 @@ use Rattle.std.proofs.lemmas.Slice.Eq.{bytes_eq-Decides}
 use Rattle.std.proofs.lemmas.List.Elements.{Contains-append_left, Contains-append_right}
 use Rattle.aa_bytes.specs.Bytes.{slash}
 use Rattle.aa_text_files.specs.Files.{File, has_file, index_from, is_folder_name}
-use Rattle.aa_text_splicing.specs.Splicing.{looked_up}
-use Rattle.aaset_start.specs.Gathering.{names_of}
+use Rattle.aa_text_tokens.specs.Splicing.{looked_up}
+use Rattle.aa_start.specs.Gathering.{names_of}
 use Rattle.aatry_folder.specs.Members.{is_folder, is_taken, names_in}
 use Rattle.aatry_folder.specs.NamesBelow.{Answer, AreAnswers, IsWalk, MayHave, names_answered, path_of}
 use Rattle.aatry_folder.specs.Includes.{Answered, IsMember, IsSteady, Lacks, LeadsTo, NothingStandsFor, Stands, ToldBelow}

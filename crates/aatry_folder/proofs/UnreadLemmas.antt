@@ -1,12 +1,12 @@
 -- What keeps a folder of policy, or a file, from being read.
 use Rattle.std.proofs.Common.{◌≡◌, ℕ, Bool, true, false, List, [], ◌∷◌, ◌++◌, inl, inr, refl, subst}
 use Rattle.std.specs.Prelude.{IsTrue, codes, ◌||◌}
-use Rattle.aaset_start.specs.Gathering.{IsFaultBehind, IsFirstFault}
-use Rattle.aaset_start.specs.Known.{Known}
-use Rattle.aaset_start.specs.Names.{is_bad_name}
-use Rattle.aaset_start.specs.Readable.{IsFirstRefusal}
-use Rattle.aaset_start.specs.declared.gathering.GatherFault.{GatherFault}
-use Rattle.aaset_start.specs.declared.gathering.GatherFault.TheVariants as files
+use Rattle.aa_start.specs.Gathering.{IsFaultBehind, IsFirstFault}
+use Rattle.aa_start.specs.Known.{Known}
+use Rattle.aa_start.specs.Names.{is_bad_name}
+use Rattle.aa_start.specs.Readable.{IsFirstRefusal}
+use Rattle.aa_start.specs.declared.gathering.GatherFault.{GatherFault}
+use Rattle.aa_start.specs.declared.gathering.GatherFault.TheVariants as files
 use Rattle.aatry_folder.specs.Unread.{IsOfFile, IsOfFolder}
 use Rattle.aatry_folder.specs.Faults.{fault_of_files, fault_of_folder}
 use Rattle.aatry_folder.specs.NamesBelow.{Answer, AreFound, IsFault, IsWalk}

@@ -1,6 +1,6 @@
 -- What a fault of reading folders and files is to the program.
-use Rattle.aaset_start.specs.declared.gathering.GatherFault.{GatherFault}
-use Rattle.aaset_start.specs.declared.gathering.GatherFault.TheVariants as files
+use Rattle.aa_start.specs.declared.gathering.GatherFault.{GatherFault}
+use Rattle.aa_start.specs.declared.gathering.GatherFault.TheVariants as files
 use Rattle.aatry_folder.specs.declared.below.FolderFault.{FolderFault}
 use Rattle.aatry_folder.specs.declared.below.FolderFault.TheVariants as folder
 use Rattle.aatry_folder.specs.declared.fault.Fault.{Fault}

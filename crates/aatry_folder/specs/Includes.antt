@@ -3,7 +3,7 @@ use Rattle.std.specs.Prelude.{◌≡◌, ◌⊎◌, ℕ, IsTrue, false, true, Li
 use Rattle.aa_bytes.specs.Bytes.{slash}
 use Rattle.aa_text_files.specs.Files.{File, bytes_at, file_at, has_file, is_folder_name}
 use Rattle.aa_text_files.specs.declared.text_error.Place.{Place}
-use Rattle.aa_text_splicing.specs.Splicing.{looked_up}
+use Rattle.aa_text_tokens.specs.Splicing.{looked_up}
 use Rattle.aa_text_tokens.specs.Cut.{Seen, cut}
 use Rattle.aa_text_tokens.specs.declared.cut.TokenKind.TheVariants.{Include}
 use Rattle.aatry_folder.specs.Members.{is_folder, is_taken}

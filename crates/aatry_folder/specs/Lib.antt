@@ -1,3 +1,4 @@
+pub mod Asked
 pub mod Faults
 pub mod Includes
 pub mod Links
@@ -10,7 +11,9 @@ pub mod PolicyFiles
 pub mod PolicyFolders
 pub mod Reaching
 pub mod Reports
+pub mod SeenPaths
 pub mod Told
 pub mod Unread
 pub mod Whole
+pub mod WholeNames
 pub mod code

@@ -1,8 +1,8 @@
 -- A file at a path of its own.
 use Rattle.std.specs.Prelude.{◌≡◌, ℕ, false, List, [], ◌∷◌, codes}
 use Rattle.aa_text_files.specs.Files.{File, is_folder_name}
-use Rattle.aaset_start.specs.Gathering.{IsReadBelow}
-use Rattle.aaset_start.specs.Known.{Known}
+use Rattle.aa_start.specs.Gathering.{IsReadBelow}
+use Rattle.aa_start.specs.Known.{Known}
 
 -- The one of these files is that of this path: it has the bytes that lie there, where they are known. A path that isn't whole begins in the current
 -- folder, and one that ends in `/` is that of no file.

@@ -3,10 +3,10 @@ use Rattle.std.specs.Prelude.{◌≡◌, ℕ, Bool, not, ◌||◌, if◌then◌e
 use Rattle.aa_bytes.specs.Bytes.{slash}
 use Rattle.aa_bytes.specs.Texts.{begins_with_byte, has_byte}
 use Rattle.aa_text_files.specs.Files.{File}
-use Rattle.aaset_start.specs.Gathering.{IsTakable, names_of}
-use Rattle.aaset_start.specs.Known.{Known}
-use Rattle.aaset_start.specs.Readable.{AreTakenSo}
-use Rattle.aaset_start.specs.declared.readable.UnreadFault.{UnreadFault}
+use Rattle.aa_start.specs.Gathering.{IsTakable, names_of}
+use Rattle.aa_start.specs.Known.{Known}
+use Rattle.aa_start.specs.Readable.{AreTakenSo}
+use Rattle.aa_start.specs.declared.readable.UnreadFault.{UnreadFault}
 use Rattle.aatry_folder.specs.NamesBelow.{Answer, AreFound, IsWalk}
 use Rattle.aatry_folder.specs.Told.{ToldFolders}
 use Rattle.aatry_folder.specs.Whole.{AreAskedWhole}

@@ -1,7 +1,7 @@
 -- Which files includes lead to.
 use Rattle.std.specs.Prelude.{◌≡◌, ℕ, Bool, false, List, [], ◌∷◌, Ok, Contains}
 use Rattle.aa_text_files.specs.Files.{File, bytes_at}
-use Rattle.aa_text_splicing.specs.Splicing.{Entering, target}
+use Rattle.aa_text_tokens.specs.Splicing.{Entering, target}
 use Rattle.aa_text_tokens.specs.Cut.{Seen, cut}
 use Rattle.aa_text_tokens.specs.declared.cut.TokenKind.TheVariants.{Include}
 

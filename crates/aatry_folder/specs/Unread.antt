@@ -1,12 +1,12 @@
 -- Which faults keep a folder of policy, or a file, from being read, and when.
 use Rattle.std.specs.Prelude.{◌≡◌, ◌⊎◌, ℕ, IsTrue, true, List, [], ◌∷◌, ◌++◌, codes, string_bytes, ⊤}
 use Rattle.aa_text_files.specs.Files.{is_folder_name}
-use Rattle.aaset_start.specs.Gathering.{IsUnreadableBelow}
-use Rattle.aaset_start.specs.Known.{Known}
-use Rattle.aaset_start.specs.Names.{is_bad_name}
-use Rattle.aaset_start.specs.Readable.{IsFirstRefusal}
-use Rattle.aaset_start.specs.declared.gathering.GatherFault.{GatherFault}
-use Rattle.aaset_start.specs.declared.gathering.GatherFault.TheVariants as files
+use Rattle.aa_start.specs.Gathering.{IsUnreadableBelow}
+use Rattle.aa_start.specs.Known.{Known}
+use Rattle.aa_start.specs.Names.{is_bad_name}
+use Rattle.aa_start.specs.Readable.{IsFirstRefusal}
+use Rattle.aa_start.specs.declared.gathering.GatherFault.{GatherFault}
+use Rattle.aa_start.specs.declared.gathering.GatherFault.TheVariants as files
 use Rattle.aatry_folder.specs.NamesBelow.{Answer, AreFound, IsFault, IsWalk}
 use Rattle.aatry_folder.specs.Told.{ToldFolders}
 use Rattle.aatry_folder.specs.declared.below.FolderFault.TheVariants as folder

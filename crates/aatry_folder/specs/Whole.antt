@@ -4,12 +4,12 @@ use Rattle.std.specs.Option.{option_map}
 use Rattle.aa_bytes.specs.Bytes.{slash}
 use Rattle.aa_bytes.specs.Texts.{begins_with_byte}
 use Rattle.aa_text_files.specs.Files.{File}
-use Rattle.aaset_start.specs.Gathering.{names_of}
-use Rattle.aaset_start.specs.Known.{Known}
-use Rattle.aaset_start.specs.Readable.{AreTakenSo}
-use Rattle.aaset_start.specs.declared.readable.UnreadFault.{UnreadFault}
+use Rattle.aa_start.specs.Gathering.{names_of}
+use Rattle.aa_start.specs.Known.{Known}
+use Rattle.aa_start.specs.Readable.{AreTakenSo}
+use Rattle.aa_start.specs.declared.readable.UnreadFault.{UnreadFault}
 use Rattle.aatry_folder.specs.Told.{ToldFolders}
-use Rattle.aatry_whole_names.specs.WholeNames.{front_at, whole_names}
+use Rattle.aatry_folder.specs.WholeNames.{front_at, whole_names}
 
 -- How the whole path of each file below a folder begins, if the folder has one: its own path where that is whole, and else the one that this leads to.
 abbrev pub IsFront : ToldFolders → List ℕ → Option (List ℕ) → Type 0

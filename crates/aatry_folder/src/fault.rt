@@ -5,7 +5,7 @@ ghost use Rattle.aatry_folder.specs.Faults.{fault_of_files, fault_of_folder};
 ghost use Rattle.aatry_folder.specs.declared.fault.Fault.TheVariants as fault;
 
 use crate::below::FolderFault;
-use aaset_start::GatherFault;
+use aa_start::GatherFault;
 use std::alloc::AllocError;
 
 /// What keeps the program from doing what it is asked for. Reading a folder of policy or a file gives none but `Unreadable`, `TooMany` and `NoMemory`;

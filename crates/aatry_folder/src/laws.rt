@@ -4,17 +4,17 @@ ghost use Rattle.std.specs.Prelude.{◌≡◌, ℕ, [], ◌∷◌, ◌++◌, IsT
 ghost use Rattle.aa_text_files.specs.Files.{File, file_at};
 ghost use Rattle.aa_text_files.specs.declared.text_error.Place.{Place};
 ghost use Rattle.aa_text_files.specs.declared.text_error.TextRefusal.TheVariants.{NoFile};
-ghost use Rattle.aa_text_splicing.specs.Splicing.{spliced};
-ghost use Rattle.aaset_start.specs.Gathering.{names_of};
-ghost use Rattle.aaset_start.specs.Readable.{AreTakenSo, unread_at};
-ghost use Rattle.aaset_start.specs.declared.readable.UnreadFault.{UnreadFault};
+ghost use Rattle.aa_text_tokens.specs.Splicing.{spliced};
+ghost use Rattle.aa_start.specs.Gathering.{names_of};
+ghost use Rattle.aa_start.specs.Readable.{AreTakenSo, unread_at};
+ghost use Rattle.aa_start.specs.declared.readable.UnreadFault.{UnreadFault};
 ghost use Rattle.aatry_folder.specs.Includes.{Answered, IsMissing, IsMissingAsAWhole, IsSteady, Lacks, NothingStandsFor, Stands, ToldBelow};
 ghost use Rattle.aatry_folder.specs.Members.{is_folder};
 ghost use Rattle.aatry_folder.specs.NamesBelow.{Answer, IsWalk};
 ghost use Rattle.aatry_folder.specs.Reaching.{Reaches};
 
 use crate::folders::Folders;
-use aaset_start::FileSystem;
+use aa_start::FileSystem;
 
 /// Where names come of a walk, as those that `aatry_folder::names_below` finds, each file and folder that stands in the folder of policy and isn't passed
 /// over is among them, however deep it lies: each that stands there by what the file system answered in the walk, which asked for the members of the base

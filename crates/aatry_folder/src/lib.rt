@@ -1,7 +1,8 @@
-//! The files and folders below a folder of policy, as apparmor_parser takes them, and a file at its own path, found and read; and what a
-//! command over them comes to: a report, or a fault.
+//! Folders of policy on a disk: which files lie there, which are passed over, and what is read of them; and includes by a whole path, which are looked up
+//! below the folder.
 #![tactic(auto)]
 
+mod asked;
 mod below;
 mod fault;
 mod folders;
@@ -10,6 +11,7 @@ mod loading;
 mod member;
 mod one_file;
 mod passed_over;
+mod paths;
 mod policy_files;
 mod policy_folder;
 mod report;
@@ -25,6 +27,7 @@ pub use laws::{
 pub use loading::{Loading, TopFile};
 pub use one_file::file_at;
 pub use passed_over::{is_kept_aside, is_passed_over};
+pub use paths::{front_at, whole_names};
 pub use policy_files::PolicyFiles;
 pub use policy_folder::{PolicyFolder, policy_below};
 pub use report::{Report, failed_by};

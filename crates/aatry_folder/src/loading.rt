@@ -2,7 +2,7 @@
 
 ghost use Rattle.std.specs.Prelude.{◌≡◌, ◌++◌, ◌∷◌, [], IfOk, OnOk, map, string_bytes};
 ghost use Rattle.std.specs.List.{All};
-ghost use Rattle.aaset_start.specs.Gathering.{texts_of};
+ghost use Rattle.aa_start.specs.Gathering.{texts_of};
 ghost use Rattle.aatry_folder.specs.Loadings.{AreTop, IsAsked, IsLoadedSo, disabled, in_force, in_loading_order, is_disabled, seen_top};
 ghost use Rattle.aatry_folder.specs.NamesBelow.{path_of};
 ghost use Rattle.aatry_folder.specs.declared.loading.Loading.{Loading};

@@ -1,13 +1,13 @@
 //! A file at a path of its own, read from a disk.
 
 ghost use Rattle.std.specs.Prelude.{◌≡◌, ◌∷◌, [], IfErr, IfOk, string_bytes};
-ghost use Rattle.aaset_start.specs.Gathering.{texts_of};
+ghost use Rattle.aa_start.specs.Gathering.{texts_of};
 ghost use Rattle.aatry_folder.specs.OneFile.{IsFileAt};
 ghost use Rattle.aatry_folder.specs.Unread.{IsOfFile};
 
 use crate::fault::Fault;
+use aa_start::{FileSystem, gather};
 use aa_text_files::Files;
-use aaset_start::{FileSystem, gather};
 use std::alloc::{AllocError, Global};
 
 // The folder that the path of a file begins in, where it is no whole path.

@@ -2,8 +2,8 @@
 
 ghost use Rattle.std.specs.Prelude.{◌≡◌, ◌++◌, ◌∷◌, [], IfErr, IfOk, OnOk, map, string_bytes};
 ghost use Rattle.std.specs.List.{All};
-ghost use Rattle.aaset_start.specs.Gathering.{IsTakable, names_of, texts_of};
-ghost use Rattle.aaset_start.specs.Readable.{AreTakenSo};
+ghost use Rattle.aa_start.specs.Gathering.{IsTakable, names_of, texts_of};
+ghost use Rattle.aa_start.specs.Readable.{AreTakenSo};
 ghost use Rattle.aatry_folder.specs.Loadings.{AreTop, seen_top};
 ghost use Rattle.aatry_folder.specs.PolicyFiles.{seen_files};
 ghost use Rattle.aatry_folder.specs.PolicyFolders.{AreBelow, is_at_top, top_names, tried_names, unread_below, unread_if};
@@ -18,8 +18,8 @@ use crate::policy_files::PolicyFiles;
 use crate::whole::names_asked_whole;
 use aa_bytes::{begins_with_byte, has_byte};
 use aa_profile_parsing::Language;
+use aa_start::{FileSystem, ReadableFiles, UnreadFault, gather_readable};
 use aa_text_files::Files;
-use aaset_start::{FileSystem, ReadableFiles, UnreadFault, gather_readable};
 use std::alloc::{AllocError, Global};
 
 /// A folder of policy that was read.
@@ -192,7 +192,7 @@ fn files_below<F: Folders, D: FileSystem>(
     Ok(found)
 }
 
-/// A folder of policy, of which all files and folders are found, as `names_below` does, and their bytes read, as `aaset_start::gather_readable` does. So
+/// A folder of policy, of which all files and folders are found, as `names_below` does, and their bytes read, as `aa_start::gather_readable` does. So
 /// nothing that an include asks for is missing where it stands in the folder and isn't passed over, and nothing is taken of a file that includes one
 /// that can't be read. A file or folder that an include asks for by its whole path has this as a further name, behind all others. Of each file that is
 /// tried it is asked how its profiles are loaded, as `top_files` does. The language is the one by which they are to be read as policy.

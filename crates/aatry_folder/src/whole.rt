@@ -3,12 +3,12 @@
 ghost use Rattle.std.specs.Prelude.{◌≡◌, IfOk, List, Option, map, ℕ, string_bytes};
 ghost use Rattle.std.specs.Option.{option_map};
 ghost use Rattle.aatry_folder.specs.Whole.{IsFront};
-ghost use Rattle.aatry_whole_names.specs.WholeNames.{front_at, whole_names};
+ghost use Rattle.aatry_folder.specs.WholeNames.{front_at, whole_names};
 
 use crate::folders::Folders;
+use crate::paths::{front_at, whole_names};
 use aa_bytes::begins_with_byte;
 use aa_text_files::Files;
-use aatry_whole_names::{front_at, whole_names};
 use std::alloc::{AllocError, Global};
 
 // How the path of each file begins below the folder of a path, if one was found.
@@ -36,7 +36,7 @@ fn front_of<F: Folders>(
     found_front(alloc, found)
 }
 
-/// The whole paths of those names below a folder of policy that includes of its files ask for by them (`aatry_whole_names::whole_names`): by the path of
+/// The whole paths of those names below a folder of policy that includes of its files ask for by them (`aatry_folder::whole_names`): by the path of
 /// the folder, where that is whole, and else by the one that it leads to.
 ///
 /// # Errors

@@ -1,1 +1,2 @@
+mod ColorLemmas
 mod LawLemmas

@@ -3,7 +3,7 @@ use Rattle.std.specs.Prelude.{ℕ, Bool, false, if◌then◌else◌, List, [], �
 use Rattle.std.specs.List.{list_any}
 use Rattle.std.specs.Str.{bytes_eq}
 use Rattle.aa_bytes.specs.Texts.{begins_with, is_empty}
-use Rattle.aatry_near.specs.Near.{nearest}
+use Rattle.aatry_words.specs.Near.{nearest}
 use Rattle.aatry_report.specs.Shown.{shown}
 use Rattle.aatry_hints.specs.Commands.{commands, not_taken_by, own_options_by, unknown_in}
 use Rattle.aatry_hints.specs.Options.{options}

@@ -1,7 +1,7 @@
 -- What the law says of commands and options.
 use Rattle.std.specs.Prelude.{ℕ, Bool, true, false, not, ◌&&◌, ◌||◌, ◌++◌, List, [], ◌∷◌, None, Some, codes}
 use Rattle.std.specs.List.{list_all}
-use Rattle.aa_options.specs.Options.{Asked, ForHelp, ForThis, ForVersion, Nothing}
+use Rattle.aa_start.specs.Options.{Asked, ForHelp, ForThis, ForVersion, Nothing}
 use Rattle.aatry_arguments.specs.Forms.{CallAsked, asked_call}
 use Rattle.aatry_hints.specs.Commands.{is_taken, own_options}
 use Rattle.aatry_hints.specs.Options.{letters, options}

@@ -1,3 +1,4 @@
+pub mod Colors
 pub mod Commands
 pub mod Hints
 pub mod Laws
@@ -6,3 +7,4 @@ pub mod Parts
 pub mod Seen
 pub mod Together
 pub mod Values
+pub mod Wishes

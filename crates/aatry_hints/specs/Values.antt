@@ -3,9 +3,9 @@ use Rattle.std.specs.Prelude.{ℕ, Bool, true, not, is_some, ◌&&◌, ◌||◌,
 use Rattle.std.specs.List.{list_any}
 use Rattle.std.specs.Str.{bytes_eq}
 use Rattle.aa_profile_parsing.specs.Languages.{language_named}
-use Rattle.aatry_colors.specs.Wishes.{wish_of}
-use Rattle.aatry_times.specs.Named.{time_named}
-use Rattle.aatry_times.specs.Numbers.{number_of}
+use Rattle.aatry_hints.specs.Wishes.{wish_of}
+use Rattle.aatry_words.specs.Named.{time_named}
+use Rattle.aatry_words.specs.Numbers.{number_of}
 use Rattle.aatry_hints.specs.Commands.{is_taken}
 use Rattle.aatry_hints.specs.Options.{is_word_of, valued}
 use Rattle.aatry_hints.specs.Parts.{Given, Part, Plain, is_given_as}

@@ -6,8 +6,8 @@ ghost use Rattle.aatry_hints.specs.Hints.{command_meant, cut_line, is_cut_line, 
 
 use crate::commands::COMMANDS;
 use aa_bytes::begins_with;
-use aatry_near::nearest_text;
 use aatry_report::push_shown;
+use aatry_words::nearest_text;
 use std::alloc::{AllocError, Global};
 
 // What is told of words into which a shell cut the line of a log.

@@ -1,15 +1,24 @@
-//! What is told at a terminal of words that ask nothing, where it shows what was meant.
+//! What a terminal is shown beside what is told: lines in colours, where they are wanted, and of words that ask nothing what shows to be meant.
 #![tactic(auto)]
 
+mod color_laws;
+mod colors;
 mod commands;
 mod hints;
 mod laws;
+mod lines;
 mod options;
+mod painted;
 mod parts;
 mod together;
 mod told;
 mod values;
+mod wishes;
 
+pub use color_laws::what_colors_tell;
 pub use hints::cut_line;
 pub use laws::{what_commands_refuse, what_goes_together};
+pub use lines::push_colored;
+pub use painted::Painted;
 pub use told::hint;
+pub use wishes::{ColorWish, WithWish, is_colored, wished};

@@ -6,7 +6,7 @@ ghost use Rattle.aatry_hints.specs.Hints.{bad_value_told, going_hint, hint, no_o
 ghost use Rattle.aatry_hints.specs.Options.{options};
 ghost use Rattle.aatry_hints.specs.Parts.{parts};
 ghost use Rattle.aatry_hints.specs.Seen.{seen_bad};
-ghost use Rattle.aatry_near.specs.Near.{nearest};
+ghost use Rattle.aatry_words.specs.Near.{nearest};
 
 use crate::commands::{not_taken_by, own_options_by, unknown_in};
 use crate::hints::misspelled_by;
@@ -14,8 +14,8 @@ use crate::options::OPTIONS;
 use crate::parts::{command_in, last_part};
 use crate::together::together_hint;
 use crate::values::{BadValue, bad_value_in, lacking, values_told};
-use aatry_near::nearest_text;
 use aatry_report::push_shown;
+use aatry_words::nearest_text;
 use std::alloc::{AllocError, Global};
 
 // The line that is told of a name that no option has, and of the option that may have been meant.

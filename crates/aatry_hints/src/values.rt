@@ -1,7 +1,7 @@
 //! The values of options: which are some, and the first that is none.
 
 ghost use Rattle.std.specs.Prelude.{◌≡◌, is_some, map, option_map, string_bytes};
-ghost use Rattle.aatry_colors.specs.Wishes.{wish_of};
+ghost use Rattle.aatry_hints.specs.Wishes.{wish_of};
 ghost use Rattle.aatry_hints.specs.Parts.{parts};
 ghost use Rattle.aatry_hints.specs.Seen.{seen_bad, seen_part};
 ghost use Rattle.aatry_hints.specs.Values.{bad_value_in, bad_value_of, counts_ahead_of, is_bad, is_value_of, lacking, values_told};
@@ -10,7 +10,7 @@ use crate::commands::is_taken;
 use crate::options::{VALUED, is_word_of};
 use crate::parts::{Part, first_part, is_given};
 use aa_profile_parsing::Language;
-use aatry_times::{number_of, time_named};
+use aatry_words::{number_of, time_named};
 
 /// An option with a value that it doesn't take.
 #[derive(Clone, Copy)]

@@ -1,6 +1,6 @@
 -- With which faults it may end to ask a folder of policy by logs.
 use Rattle.std.specs.Prelude.{◌⊎◌}
-use Rattle.aaset_start.specs.Known.{Known}
+use Rattle.aa_start.specs.Known.{Known}
 use Rattle.aatry_arguments.specs.LogWords.{LogsAsked}
 use Rattle.aatry_folder.specs.Told.{ToldFolders}
 use Rattle.aatry_folder.specs.Unread.{IsOfFolder}

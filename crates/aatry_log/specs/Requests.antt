@@ -13,7 +13,7 @@ use Rattle.aatry_requests.specs.Order.{IsMostAskedFirst}
 use Rattle.aatry_requests.specs.Tallies.{Tally}
 use Rattle.aatry_requests.specs.Texts.{question_text}
 use Rattle.aatry_requests.specs.declared.spans.Span.{Span}
-use Rattle.aatry_times.specs.Told.{time_text}
+use Rattle.aatry_words.specs.Told.{time_text}
 use Rattle.aatry_why.specs.Why.{asked_text, has_answer}
 
 -- when it came first and last: one time, where these are the same, and nothing where no time is known

@@ -6,11 +6,11 @@ ghost use Rattle.aatry_report.specs.Records.{with_text};
 ghost use Rattle.aatry_report.specs.SeenRecord.{seen_record};
 ghost use Rattle.aatry_requests.specs.SeenTallies.{seen_tally};
 ghost use Rattle.aatry_requests.specs.Texts.{question_text};
-ghost use Rattle.aatry_times.specs.Told.{time_text};
+ghost use Rattle.aatry_words.specs.Told.{time_text};
 
 use aatry_report::{Form, Record, Teller};
 use aatry_requests::{Span, Tally, push_question, push_times};
-use aatry_times::push_time;
+use aatry_words::push_time;
 use std::alloc::{AllocError, Global};
 
 // Appends the last time to a text, where it isn't the first.

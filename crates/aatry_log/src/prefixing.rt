@@ -2,10 +2,10 @@
 
 ghost use Rattle.std.specs.Prelude.{◌≡◌, ◌++◌, OnOk, false, flat_map};
 ghost use Rattle.std.specs.List.{list_any};
-ghost use Rattle.aa_set_lines.specs.Lines.{is_line_feed, lines};
+ghost use Rattle.aa_set_commands.specs.Lines.{is_line_feed, lines};
 ghost use Rattle.aatry_log.specs.Prefixed.{prefixed, prefixed_text};
 
-use aa_set_lines::first_line;
+use aa_set_commands::first_line;
 use aatry_report::Form;
 use std::alloc::AllocError;
 

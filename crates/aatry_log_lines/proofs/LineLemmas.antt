@@ -6,7 +6,7 @@ use Rattle.std.proofs.lemmas.List.{append_assoc}
 use Rattle.std.proofs.lemmas.List.Elements.{All-cons, All-nil}
 use Rattle.std.proofs.lemmas.List.Splits.{length-slice_split, slice_split_at, slice_split_none}
 use Rattle.aa_bytes.specs.Bytes.{line_feed}
-use Rattle.aa_set_lines.specs.Lines.{is_line_feed, lines, without_empty_last}
+use Rattle.aa_set_commands.specs.Lines.{is_line_feed, lines, without_empty_last}
 
 -- texts of which one stands first, where others follow
 first-of : (text : List ℕ) (texts : List (List ℕ)) → 1 ≤ length texts → without_empty_last (text ∷ texts) ≡ text ∷ without_empty_last texts

@@ -13,22 +13,22 @@ use Rattle.std.proofs.lemmas.List.Splits.{slice_split_at, slice_split_none}
 use Rattle.hex.specs.Hex.{IsBytes, encode_with, upper_digits}
 use Rattle.aa_bytes.specs.Bytes.{line_feed, quote, space}
 use Rattle.aa_bytes.specs.Quoting.{hexadecimal, is_shown, quoted, written_text}
-use Rattle.aa_decide_audit.specs.LogLines.{beginning, capability_subject, file_subject, mask_key, socket_subject, tag_word, tagged_exec_line, tagged_line}
-use Rattle.aa_decide_audit.specs.declared.verdict.Tag.{Tag}
-use Rattle.aa_decide_audit.specs.declared.verdict.Tag.TheVariants.{Allowed, Audit, Denied}
-use Rattle.aa_profile_access.specs.Access.{EXEC, asked_letters, has, letters_of}
-use Rattle.aa_profile_access.specs.Request.{ForCapability, ForFile, ForSockets, Request}
-use Rattle.aa_profile_tables.specs.Capabilities.{capability_name}
-use Rattle.aa_profile_tables.specs.Domains.{domain_name}
-use Rattle.aa_profile_tables.specs.Kinds.{kind_name}
-use Rattle.aa_profile_tables.specs.Names.{name_or_none}
+use Rattle.aa_decide_rules.specs.LogLines.{beginning, capability_subject, file_subject, mask_key, socket_subject, tag_word, tagged_exec_line, tagged_line}
+use Rattle.aa_decide_rules.specs.declared.verdict.Tag.{Tag}
+use Rattle.aa_decide_rules.specs.declared.verdict.Tag.TheVariants.{Allowed, Audit, Denied}
+use Rattle.aa_profile_data.specs.Access.{EXEC, asked_letters, has, letters_of}
+use Rattle.aa_profile_data.specs.Request.{ForCapability, ForFile, ForSockets, Request}
+use Rattle.aa_profile_data.specs.Capabilities.{capability_name}
+use Rattle.aa_profile_data.specs.Domains.{domain_name}
+use Rattle.aa_profile_data.specs.Kinds.{kind_name}
+use Rattle.aa_profile_data.specs.TableNames.{name_or_none}
 use Rattle.aa_set_commands.specs.Question.{OfAccess, OfExec, is_path, type_number}
-use Rattle.aa_set_lines.specs.Lines.{is_line_feed, lines}
+use Rattle.aa_set_commands.specs.Lines.{is_line_feed, lines}
 use Rattle.aatry_log_lines.specs.Laws.{CanBeLogged, as_logged}
 use Rattle.aatry_log_lines.specs.Lines.{Asks, Told, asked_by, asked_of, asker_of, file_told, has_asked_class, is_disconnected, is_local, is_of_host, owned_in, request_told, sockets_told, told_as, told_by, told_by_message, told_of}
 use Rattle.aatry_log_lines.specs.Messages.{NoMessage, message_in}
 use Rattle.aatry_log_lines.specs.LoggedQuestions.{path_question}
-use Rattle.aatry_kernel_words.specs.Masks.{needs_of_mask}
+use Rattle.aatry_words.specs.Masks.{needs_of_mask}
 use Rattle.aatry_log_lines.specs.Pairs.{is_gap, value_among, value_of, words}
 use Rattle.aatry_log_lines.specs.Values.{quoted_text}
 use Rattle.aatry_log_lines.proofs.LineLemmas.{lines-ended, none-pass}

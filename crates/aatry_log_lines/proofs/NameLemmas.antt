@@ -1,10 +1,10 @@
 -- Names of tables, read back.
 use Rattle.std.proofs.Common.{◌≡◌, ℕ, zero, suc, ◌<◌, ◌==◌, ◌&&◌, not, Bool, true, false, refl, sym, ap, subst, arith, inl, inr, Option, None, Some, true≢false}
 use Rattle.std.proofs.lemmas.Bool.{and_parts, cases_lt, eqb-true}
-use Rattle.aa_profile_tables.specs.Capabilities.{capability_name, capability_number}
-use Rattle.aa_profile_tables.specs.Domains.{domain_name, domain_number}
-use Rattle.aa_profile_tables.specs.Kinds.{kind_name, kind_number}
-use Rattle.aa_profile_tables.specs.Names.{name_or_none}
+use Rattle.aa_profile_data.specs.Capabilities.{capability_name, capability_number}
+use Rattle.aa_profile_data.specs.Domains.{domain_name, domain_number}
+use Rattle.aa_profile_data.specs.Kinds.{kind_name, kind_number}
+use Rattle.aa_profile_data.specs.TableNames.{name_or_none}
 
 -- a test holds of each number below another
 abbrev pub holds_below : ℕ → (ℕ → Bool) → Bool

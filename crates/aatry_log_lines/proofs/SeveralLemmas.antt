@@ -3,7 +3,7 @@ use Rattle.std.proofs.Common.{◌≡◌, ℕ, zero, suc, Bool, true, false, List
 use Rattle.std.specs.Prelude.{is_some, option_map}
 use Rattle.std.specs.List.{onto_first}
 use Rattle.aa_bytes.specs.Texts.{begins_with}
-use Rattle.aa_profile_access.specs.Stacks.{parts_behind, parts_of, parts_of_rest}
+use Rattle.aa_profile_data.specs.Stacks.{parts_behind, parts_of, parts_of_rest}
 use Rattle.aatry_log_lines.specs.Lines.{are_several}
 
 -- a text has some part

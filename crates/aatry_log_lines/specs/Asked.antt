@@ -1,8 +1,8 @@
 -- What lines ask, as the code holds it.
 use Rattle.std.proofs.Props.{props}
 use Rattle.std.specs.Prelude.{◌<◌}
-use Rattle.aa_profile_access.specs.Access.{asked_letters}
-use Rattle.aa_profile_access.specs.Request.{ForCapability, ForFile, ForSockets}
+use Rattle.aa_profile_data.specs.Access.{asked_letters}
+use Rattle.aa_profile_data.specs.Request.{ForCapability, ForFile, ForSockets}
 use Rattle.aa_set_commands.specs.Question.{OfAccess, OfExec, Question}
 use Rattle.aatry_log_lines.specs.Values.{seen_text}
 use Rattle.aatry_log_lines.specs.declared.asked.Asked.{Asked}

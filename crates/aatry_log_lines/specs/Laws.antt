@@ -1,8 +1,8 @@
 -- What the laws ask of requests, and what a line that logs one tells.
 use Rattle.std.specs.Prelude.{◌≡◌, ◌<◌, ℕ, true, false, List}
 use Rattle.hex.specs.Hex.{IsBytes}
-use Rattle.aa_profile_access.specs.Access.{asked_letters}
-use Rattle.aa_profile_access.specs.Request.{ForCapability, ForFile, ForSockets, Request}
+use Rattle.aa_profile_data.specs.Access.{asked_letters}
+use Rattle.aa_profile_data.specs.Request.{ForCapability, ForFile, ForSockets, Request}
 use Rattle.aa_set_commands.specs.Question.{OfAccess, Question, is_path}
 
 -- A request that can be asked and logged: it needs some letter, and its path is one, as `ask` takes it.

@@ -5,7 +5,7 @@ use Rattle.std.specs.Str.{bytes_eq}
 use Rattle.aa_bytes.specs.Bytes.{quote}
 use Rattle.aa_bytes.specs.Quoting.{quoted}
 use Rattle.aa_bytes.specs.Texts.{begins_with, is_empty}
-use Rattle.aa_profile_access.specs.Stacks.{parts_of}
+use Rattle.aa_profile_data.specs.Stacks.{parts_of}
 use Rattle.aa_set_commands.specs.Question.{Question}
 use Rattle.aatry_log_lines.specs.LoggedQuestions.{capability_asked, file_asked, seen_logged, sockets_asked}
 use Rattle.aatry_log_lines.specs.Messages.{Broken, NoMessage, Whole, message_in}

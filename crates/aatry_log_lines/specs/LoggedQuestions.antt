@@ -2,11 +2,11 @@
 use Rattle.std.specs.Prelude.{ℕ, Bool, if◌then◌else◌, List, Option, None, Some, codes}
 use Rattle.std.specs.Result.{result_ok}
 use Rattle.std.specs.Str.{bytes_eq}
-use Rattle.aa_profile_tables.specs.Capabilities.{capability_number}
-use Rattle.aa_profile_tables.specs.Domains.{domain_number}
+use Rattle.aa_profile_data.specs.Capabilities.{capability_number}
+use Rattle.aa_profile_data.specs.Domains.{domain_number}
 use Rattle.aa_set_commands.specs.Question.{Question, capability_question, exec_question, file_question, socket_question, type_number}
 use Rattle.aatry_log_lines.specs.Asked.{question_of}
-use Rattle.aatry_kernel_words.specs.Masks.{needs_of_mask}
+use Rattle.aatry_words.specs.Masks.{needs_of_mask}
 use Rattle.aatry_log_lines.specs.declared.asked.LoggedQuestion.{LoggedQuestion}
 
 -- a question of the code

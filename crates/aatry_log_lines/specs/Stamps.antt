@@ -3,7 +3,7 @@
 use Rattle.std.specs.Prelude.{ℕ, Bool, ◌==◌, nat_lt, if◌then◌else◌, List, Option, None, Some, codes, length, option_and_then, take}
 use Rattle.std.specs.List.{position_or_len}
 use Rattle.aatry_log_lines.specs.Pairs.{value_of}
-use Rattle.aatry_times.specs.Numbers.{number_of}
+use Rattle.aatry_words.specs.Numbers.{number_of}
 
 abbrev pub is_dot : ℕ → Bool
 is_dot b = b == 46

@@ -5,7 +5,7 @@ ghost use Rattle.aa_set_commands.specs.Question.{IsWellFormed, seen_question};
 ghost use Rattle.aatry_log_lines.specs.Asked.{IsWellAsked, question_of, well_asked-prop};
 
 use crate::values::LoggedText;
-use aa_profile_access::Perms;
+use aa_profile_data::Perms;
 use aa_set_commands::Question;
 use std::alloc::{AllocError, Global};
 

@@ -3,19 +3,19 @@
 ghost use Rattle.std.specs.Prelude.{◌≡◌, ℕ, false, true, List, [], ◌∷◌, None, Some, map};
 ghost use Rattle.hex.specs.Hex.{IsBytes};
 ghost use Rattle.aa_bytes.specs.Quoting.{written_text};
-ghost use Rattle.aa_decide_audit.specs.LogLines.{exec_line, log_line};
-ghost use Rattle.aa_decide_audit.specs.declared.verdict.Tag.{Tag};
-ghost use Rattle.aa_decide_audit.specs.declared.verdict.Verdict.{Verdict};
-ghost use Rattle.aa_profile_access.specs.Request.{Request};
+ghost use Rattle.aa_decide_rules.specs.LogLines.{exec_line, log_line};
+ghost use Rattle.aa_decide_rules.specs.declared.verdict.Tag.{Tag};
+ghost use Rattle.aa_decide_rules.specs.declared.verdict.Verdict.{Verdict};
+ghost use Rattle.aa_profile_data.specs.Request.{Request};
 ghost use Rattle.aa_set_commands.specs.Question.{OfExec, is_path};
-ghost use Rattle.aa_set_lines.specs.Lines.{lines};
+ghost use Rattle.aa_set_commands.specs.Lines.{lines};
 ghost use Rattle.aatry_log_lines.specs.Entries.{entry_by};
 ghost use Rattle.aatry_log_lines.specs.Laws.{CanBeLogged, as_logged};
 ghost use Rattle.aatry_log_lines.specs.Lines.{Asks, told_by};
 ghost use Rattle.aatry_log_lines.specs.Selections.{Selection};
 ghost use Rattle.aatry_log_lines.specs.Values.{text_of};
 
-/// What is written of a text as the log lines of `aa_decide_audit` write it, between quotes or in hexadecimal, is read back as that text.
+/// What is written of a text as the log lines of `aa_decide_rules` write it, between quotes or in hexadecimal, is read back as that text.
 pub fn what_is_written_reads_back()
     ensures { (text : List ℕ) → IsBytes text → text_of (written_text text) ≡ Some text }
 {}

@@ -1,7 +1,7 @@
 //! What lines of a log tell of.
 
 ghost use Rattle.std.specs.Prelude.{◌≡◌, codes, option_map, IfOk};
-ghost use Rattle.aa_profile_access.specs.Stacks.{parts_of};
+ghost use Rattle.aa_profile_data.specs.Stacks.{parts_of};
 ghost use Rattle.aatry_log_lines.specs.Lines.{One, are_several, asked_by, asked_of, asker_of, has_asked_class, has_word, is_disconnected, is_learning};
 ghost use Rattle.aatry_log_lines.specs.Lines.{is_local, is_of_host, is_of_learning, labelled, owned_in};
 ghost use Rattle.aatry_log_lines.specs.Lines.{file_told, quoted_at, request_told, seen_line, sockets_told, tells_else, tells_request, text_at};
@@ -17,7 +17,7 @@ use crate::messages::{Message, message_in};
 use crate::pairs::value_of;
 use crate::values::{LoggedText, quoted_text, text_of};
 use aa_bytes::begins_with;
-use aa_profile_access::first_member;
+use aa_profile_data::first_member;
 use std::alloc::{AllocError, Global};
 
 /// What a line of a kernel's log tells of.

@@ -6,9 +6,9 @@ ghost use Rattle.aatry_log_lines.specs.Values.{seen_text};
 
 use crate::asked::{Asked, LoggedQuestion};
 use crate::values::LoggedText;
-use aa_profile_tables::{capability_number, domain_number, which_numbers_names_have};
+use aa_profile_data::{capability_number, domain_number, which_numbers_names_have};
 use aa_set_commands::{is_path, type_number};
-use aatry_kernel_words::needs_of_mask;
+use aatry_words::needs_of_mask;
 
 /// The question for the capability of a name, if there is one. It takes no memory.
 pub fn capability_asked<'a>(

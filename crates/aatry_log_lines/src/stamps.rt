@@ -6,7 +6,7 @@ ghost use Rattle.aatry_log_lines.specs.Stamps.{is_dot, seconds_of, stamp_in, tim
 
 use crate::pairs::value_of;
 use aa_bytes::length_while;
-use aatry_times::number_of;
+use aatry_words::number_of;
 
 // How many bytes stand ahead of the first dot.
 fn size_before_dot(text: &[u8]) -> usize

@@ -1,1 +1,3 @@
+mod LawLemmas
+mod WantedLemmas
 mod WiderLemmas

@@ -4,7 +4,7 @@ use Rattle.serde_json.specs.Data.{Members}
 use Rattle.aa_bytes.specs.Bytes.{line_feed}
 use Rattle.aa_profile_data.specs.declared.profile.Rule.{Rule}
 use Rattle.aatry_log_rules.specs.Wider.{with_wider}
-use Rattle.aatry_log_wants.specs.Wanted.{Wanted}
+use Rattle.aatry_log_rules.specs.Wanted.{Wanted}
 use Rattle.aatry_report.specs.Records.{record_line, record_of, with_number, with_text}
 use Rattle.aatry_report.specs.declared.form.Form.{Form}
 use Rattle.aatry_report.specs.declared.form.Form.TheVariants.{Lines, Records}

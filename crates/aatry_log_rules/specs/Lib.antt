@@ -1,8 +1,15 @@
+pub mod Findings
 pub mod Found
+pub mod Gathered
 pub mod Headings
+pub mod Laws
 pub mod Offers
+pub mod Outcomes
 pub mod SeenTelling
+pub mod SeenWanted
 pub mod SeenWider
 pub mod Told
 pub mod Unlet
+pub mod Wanted
 pub mod Wider
+pub mod code

@@ -5,7 +5,7 @@ use Rattle.std.specs.Str.{bytes_eq}
 use Rattle.serde_json.specs.Data.{Members}
 use Rattle.aa_bytes.specs.Bytes.{line_feed}
 use Rattle.aatry_abstractions.specs.Letting.{Letting}
-use Rattle.aatry_log_wants.specs.Wanted.{Wanted}
+use Rattle.aatry_log_rules.specs.Wanted.{Wanted}
 use Rattle.aatry_report.specs.Records.{record_line, record_of, with_number, with_text}
 use Rattle.aatry_report.specs.Shown.{shown}
 use Rattle.aatry_report.specs.declared.form.Form.{Form}

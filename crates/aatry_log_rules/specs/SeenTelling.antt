@@ -1,8 +1,8 @@
 -- What the telling of rules goes by in the code, as the definitions see it.
 use Rattle.std.specs.Prelude.{map}
-use Rattle.aa_decide_slots.specs.Slots.{filled}
+use Rattle.aa_decide_ready.specs.Slots.{filled}
 use Rattle.aatry_abstractions.specs.SeenLetting.{seen_letting}
-use Rattle.aatry_log_wants.specs.SeenWanted.{seen_wanted}
+use Rattle.aatry_log_rules.specs.SeenWanted.{seen_wanted}
 use Rattle.aatry_log_rules.specs.Offers.{Offer}
 use Rattle.aatry_log_rules.specs.Told.{Telling}
 use Rattle.aatry_log_rules.specs.declared.offers.Offer.{Offer as CodeOffer}

@@ -1,18 +1,18 @@
 -- What is told of the rules with which the requests of logs are allowed (docs/aatry.md).
 use Rattle.std.specs.Prelude.{◌≡◌, ℕ, Bool, List, [], ◌∷◌, ◌++◌, if◌then◌else◌, Option, None, Some, flat_map, map}
-use Rattle.aa_decide_slots.specs.Entries.{Loaded}
+use Rattle.aa_decide_ready.specs.Entries.{Loaded}
 use Rattle.aatry_abstractions.specs.Letting.{IsNarrowestFirst, Letting, lettings}
-use Rattle.aatry_log_wants.specs.Findings.{finding_of}
+use Rattle.aatry_log_rules.specs.Findings.{finding_of}
 use Rattle.aatry_log_rules.specs.Found.{rule_text}
-use Rattle.aatry_log_wants.specs.Gathered.{IsGathered, Wants}
+use Rattle.aatry_log_rules.specs.Gathered.{IsGathered, Wants}
 use Rattle.aatry_log_rules.specs.Headings.{file_for, heading_text, is_of}
 use Rattle.aatry_log_rules.specs.Offers.{offers}
 use Rattle.aatry_log_rules.specs.Unlet.{question_of, unlet_text}
 use Rattle.aatry_log_rules.specs.Wider.{told_with, wider_for, wider_text}
-use Rattle.aatry_log_wants.specs.Wanted.{IsByWho, Wanted}
-use Rattle.aatry_log_wants.specs.declared.finding.Finding.{Finding}
-use Rattle.aatry_log_wants.specs.declared.finding.Finding.TheVariants as finding
-use Rattle.aatry_log_wants.specs.declared.finding.NoRule.TheVariants.{Denied}
+use Rattle.aatry_log_rules.specs.Wanted.{IsByWho, Wanted}
+use Rattle.aatry_log_rules.specs.declared.finding.Finding.{Finding}
+use Rattle.aatry_log_rules.specs.declared.finding.Finding.TheVariants as finding
+use Rattle.aatry_log_rules.specs.declared.finding.NoRule.TheVariants.{Denied}
 use Rattle.aatry_policy.specs.Folders.{Folder, origins_in, policy_in}
 use Rattle.aatry_policy.specs.declared.origins.Origin.{Origin}
 use Rattle.aatry_report.specs.declared.form.Form.{Form}

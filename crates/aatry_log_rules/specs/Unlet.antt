@@ -2,13 +2,13 @@
 use Rattle.std.specs.Prelude.{ℕ, ◌==◌, Bool, if◌then◌else◌, List, [], ◌∷◌, ◌++◌, codes}
 use Rattle.serde_json.specs.Data.{Members}
 use Rattle.aa_bytes.specs.Bytes.{line_feed}
-use Rattle.aa_profile_access.specs.Access.{EXEC}
-use Rattle.aa_profile_access.specs.Request.{ForCapability, ForFile, ForSockets, Request}
+use Rattle.aa_profile_data.specs.Access.{EXEC}
+use Rattle.aa_profile_data.specs.Request.{ForCapability, ForFile, ForSockets, Request}
 use Rattle.aa_set_commands.specs.Question.{OfAccess, OfExec, Question}
 use Rattle.aatry_log_rules.specs.Found.{asked_text}
-use Rattle.aatry_log_wants.specs.Wanted.{Wanted}
-use Rattle.aatry_log_wants.specs.declared.finding.NoRule.{NoRule}
-use Rattle.aatry_log_wants.specs.declared.finding.NoRule.TheVariants.{Denied, InTheWay, Unwritten}
+use Rattle.aatry_log_rules.specs.Wanted.{Wanted}
+use Rattle.aatry_log_rules.specs.declared.finding.NoRule.{NoRule}
+use Rattle.aatry_log_rules.specs.declared.finding.NoRule.TheVariants.{Denied, InTheWay, Unwritten}
 use Rattle.aatry_report.specs.Records.{record_line, record_of, with_number, with_text}
 use Rattle.aatry_report.specs.declared.form.Form.{Form}
 use Rattle.aatry_report.specs.declared.form.Form.TheVariants.{Lines, Records}

@@ -4,12 +4,12 @@ use Rattle.std.specs.List.{list_any}
 use Rattle.std.specs.Str.{bytes_eq}
 use Rattle.serde_json.specs.Data.{Members}
 use Rattle.aa_bytes.specs.Bytes.{line_feed}
-use Rattle.aa_profile_access.specs.Request.{ForCapability, ForFile, ForSockets, Request}
+use Rattle.aa_profile_data.specs.Request.{ForCapability, ForFile, ForSockets, Request}
 use Rattle.aa_profile_data.specs.declared.profile.Rule.{Rule}
 use Rattle.aa_profile_data.specs.declared.profile.Rule.TheVariants.{Cap, File, Net, Other}
 use Rattle.aatry_log_globs.specs.Rules.{wider_rule}
-use Rattle.aatry_log_wants.specs.declared.finding.Finding.{Finding}
-use Rattle.aatry_log_wants.specs.declared.finding.Finding.TheVariants as finding
+use Rattle.aatry_log_rules.specs.declared.finding.Finding.{Finding}
+use Rattle.aatry_log_rules.specs.declared.finding.Finding.TheVariants as finding
 use Rattle.aatry_report.specs.Records.{with_text}
 use Rattle.aatry_report.specs.declared.form.Form.{Form}
 use Rattle.aatry_report.specs.declared.form.Form.TheVariants.{Lines, Records}

@@ -4,11 +4,11 @@ ghost use Rattle.std.specs.Prelude.{◌≡◌, ◌++◌, IfOk, OnOk};
 ghost use Rattle.std.specs.Option.{option_copied};
 ghost use Rattle.aatry_log_rules.specs.Found.{asked_text, rule_line, rule_record, rule_text};
 ghost use Rattle.aatry_log_rules.specs.Wider.{with_wider};
-ghost use Rattle.aatry_log_wants.specs.SeenWanted.{seen_wanted};
+ghost use Rattle.aatry_log_rules.specs.SeenWanted.{seen_wanted};
 ghost use Rattle.aatry_report.specs.SeenRecord.{seen_record};
 
+use crate::wanted::Wanted;
 use aa_profile_data::Rule;
-use aatry_log_wants::Wanted;
 use aatry_report::{Form, Record, Teller};
 use aatry_requests::push_times;
 use aatry_why_lines::{pasted_rule, push_shown_missing};

@@ -5,7 +5,7 @@ ghost use Rattle.std.specs.Option.{option_copied};
 ghost use Rattle.aatry_log_rules.specs.Headings.{file_for, heading, heading_text, is_of};
 
 use aa_bytes::push_text;
-use aa_profile_access::cut_full_name;
+use aa_profile_data::cut_full_name;
 use aatry_policy::{Origin, file_of, origin_in};
 use aatry_report::{Form, path_below, push_shown};
 use std::alloc::{AllocError, Global};

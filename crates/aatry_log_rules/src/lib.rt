@@ -1,12 +1,22 @@
-//! `log --rules`: the rules with which the requests of logs are allowed that lack something of a folder's policy, each by who asks, and what they can't let.
+//! `log --rules`: the requests of each who asks that lack something of a folder's policy, those for one path joined, the rule that is missing for each, and
+//! what rules can't let.
 #![tactic(auto)]
 
+mod asker;
+mod finding;
 mod found;
+mod gathering;
 mod headings;
+mod laws;
 mod offers;
 mod telling;
 mod telling_by;
 mod unlet;
+mod wanted;
 mod wider;
 
+pub use finding::{Finding, NoRule, finding_of};
+pub use gathering::{RuleWants, gather_wants};
+pub use laws::what_told_rules_let;
 pub use telling::push_rules;
+pub use wanted::{Wanted, WantedRules};

@@ -18,13 +18,13 @@ ghost use Rattle.aatry_log_rules.specs.Offers.{
   own_count,
 };
 ghost use Rattle.aatry_log_rules.specs.SeenTelling.{seen_offer, seen_telling};
-ghost use Rattle.aatry_log_wants.specs.SeenWanted.{seen_wanted};
+ghost use Rattle.aatry_log_rules.specs.SeenWanted.{seen_wanted};
 ghost use Rattle.aatry_report.specs.SeenRecord.{seen_record};
 ghost use Rattle.aatry_report.specs.declared.form.Form.TheVariants as form;
 
 use crate::telling_by::RuleTelling;
+use crate::wanted::Wanted;
 use aatry_abstractions::LettingAbstraction;
-use aatry_log_wants::Wanted;
 use aatry_report::{Form, Record, push_number, push_shown};
 use std::alloc::{AllocError, Global};
 

@@ -2,27 +2,29 @@
 
 ghost use Rattle.std.specs.Prelude.{◌≡◌, ◌++◌, [], IfOk, List, None, OnOk, map};
 ghost use Rattle.std.specs.Option.{option_copied, option_map};
-ghost use Rattle.aa_profile_access.specs.SeenRequests.{request_of};
+ghost use Rattle.aa_profile_data.specs.SeenRequests.{request_of};
 ghost use Rattle.aatry_abstractions.specs.Letting.{IsNarrowestFirst, Letting, lettings};
 ghost use Rattle.aatry_abstractions.specs.SeenLetting.{seen_letting};
 ghost use Rattle.aatry_log_rules.specs.SeenTelling.{seen_telling};
-ghost use Rattle.aatry_log_wants.specs.SeenWanted.{seen_wanted};
+ghost use Rattle.aatry_log_rules.specs.SeenWanted.{seen_wanted};
 ghost use Rattle.aatry_log_rules.specs.Told.{AreOffered, AreRulesTold, denied_text, finding_text, found_for, found_text, opening_behind, told_behind, told_of};
 ghost use Rattle.aatry_log_rules.specs.Told.{telling_of, wanted_text, wanted_texts, wider_of};
 ghost use Rattle.aatry_log_rules.specs.Wider.{told_with};
 ghost use Rattle.aatry_policy.specs.Folders.{loaded_in, origins_in, seen_folder};
 ghost use Rattle.aatry_requests.specs.SeenTallies.{seen_all};
 
+use crate::finding::{Finding, NoRule, finding_of};
 use crate::found::push_rule;
+use crate::gathering::{RuleWants, gather_wants};
 use crate::headings::{file_for, is_of, push_heading};
 use crate::offers::push_offers;
 use crate::telling_by::RuleTelling;
 use crate::unlet::{push_unlet, question_of};
+use crate::wanted::Wanted;
 use crate::wider::{WiderTold, wider_for};
-use aa_profile_access::Request;
+use aa_profile_data::Request;
 use aatry_abstractions::{LettingAbstraction, letting_abstractions};
 use aatry_folder::PolicyFolder;
-use aatry_log_wants::{Finding, NoRule, RuleWants, Wanted, finding_of, gather_wants};
 use aatry_policy::LoadedFolder;
 use aatry_report::Teller;
 use aatry_requests::{Tallies, Tally};

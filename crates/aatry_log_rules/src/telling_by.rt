@@ -1,8 +1,8 @@
 //! What the telling of rules goes by.
 
+use crate::wanted::Wanted;
 use aa_decide::IndexedSlots;
 use aatry_abstractions::LettingAbstraction;
-use aatry_log_wants::Wanted;
 use aatry_policy::Origin;
 use aatry_report::Teller;
 

@@ -2,16 +2,17 @@
 
 ghost use Rattle.std.specs.Prelude.{◌≡◌, ◌++◌, IfOk, OnOk, codes};
 ghost use Rattle.aa_set_commands.specs.Question.{seen_question};
-ghost use Rattle.aatry_log_wants.specs.SeenWanted.{seen_wanted};
+ghost use Rattle.aatry_log_rules.specs.SeenWanted.{seen_wanted};
 ghost use Rattle.aatry_log_rules.specs.Unlet.{file_question, question_of, reason_words, unlet_line, unlet_record, unlet_text};
 ghost use Rattle.aatry_report.specs.Records.{with_text};
 ghost use Rattle.aatry_report.specs.SeenRecord.{seen_record};
 ghost use Rattle.aatry_requests.specs.Texts.{question_text};
 
+use crate::finding::NoRule;
 use crate::found::push_asked;
-use aa_profile_access::{Perms, Request};
+use crate::wanted::Wanted;
+use aa_profile_data::{Perms, Request};
 use aa_set_commands::Question;
-use aatry_log_wants::{NoRule, Wanted};
 use aatry_report::{Form, Record, Teller};
 use aatry_requests::push_question;
 use std::alloc::{AllocError, Global};

@@ -2,15 +2,14 @@
 
 ghost use Rattle.std.specs.Prelude.{◌≡◌, ◌++◌, [], IfOk, OnErr, OnOk};
 ghost use Rattle.std.specs.Option.{option_copied, option_map};
-ghost use Rattle.aa_profile_access.specs.SeenRequests.{request_of};
+ghost use Rattle.aa_profile_data.specs.SeenRequests.{request_of};
 ghost use Rattle.aatry_log_rules.specs.Told.{told_of};
 ghost use Rattle.aatry_log_rules.specs.Wider.{has_text, told_with, wider_for, wider_line, wider_on, wider_once, wider_text, wider_than, with_told};
 
+use crate::finding::Finding;
 use crate::headings::is_of;
-use aa_profile_access::Request;
-use aa_profile_data::Rule;
+use aa_profile_data::{Request, Rule};
 use aatry_log_globs::wider_rule;
-use aatry_log_wants::Finding;
 use aatry_report::Form;
 use indexmap::IndexSet;
 use std::alloc::{AllocError, Global};

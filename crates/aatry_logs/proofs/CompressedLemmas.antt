@@ -3,9 +3,9 @@ use Rattle.std.proofs.Common.{◌≡◌, ◌∙◌, ℕ, ◌+◌, ◌==◌, suc,
 use Rattle.std.specs.Prelude.{IfSome, string_bytes}
 use Rattle.std.proofs.lemmas.Bool.{eqb-true}
 use Rattle.std.proofs.lemmas.List.{length-append}
-use Rattle.aa_set_lines.specs.Lines.{lines}
+use Rattle.aa_set_commands.specs.Lines.{lines}
 use Rattle.aatry_folder.specs.declared.fault.Fault.{Fault}
-use Rattle.aatry_input.specs.Inputs.{GivesLine, kept}
+use Rattle.aatry_logs.specs.OpenedInputs.{GivesLine, kept}
 use Rattle.aatry_logs.specs.Compressed.{IsNamedCompressed, IsOfCompressed, begin_compressed, is_compressed}
 use Rattle.aatry_logs.specs.Inputs.{AreGiven}
 use Rattle.aatry_logs.proofs.InputLemmas.{one_more}

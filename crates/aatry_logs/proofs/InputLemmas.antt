@@ -7,9 +7,9 @@ use Rattle.std.proofs.lemmas.Bool.Decides.{eqb_tells, nat_tests}
 use Rattle.std.proofs.lemmas.List.{length-take, length-take-le, take-take, take_all}
 use Rattle.std.proofs.lemmas.List.Sums.{fold-append}
 use Rattle.aa_bytes.specs.Bytes.{line_feed}
-use Rattle.aa_set_lines.specs.Limits.{longest_line}
-use Rattle.aa_set_lines.specs.Lines.{is_line_feed, lines}
-use Rattle.aatry_input.specs.Inputs.{GivesLine, kept}
+use Rattle.aa_set_commands.specs.Limits.{longest_line}
+use Rattle.aa_set_commands.specs.Lines.{is_line_feed, lines}
+use Rattle.aatry_logs.specs.OpenedInputs.{GivesLine, kept}
 use Rattle.aatry_log_lines.proofs.LineLemmas.{lines-ended, lines-last}
 use Rattle.aatry_log_lines.specs.Selections.{Selection}
 use Rattle.aatry_logs.specs.Apart.{longest_text}

@@ -1,3 +1,4 @@
 mod CompressedLemmas
 mod GatheredLemmas
 mod InputLemmas
+mod LineInputLemmas

@@ -1,7 +1,7 @@
 -- Logs that gzip wrote, whose bytes are no lines.
 use Rattle.std.specs.Prelude.{◌≡◌, ℕ, Bool, true, false, List, [], ◌∷◌, Option, None, Some, IfSome, codes, string_bytes}
 use Rattle.aa_bytes.specs.Texts.{begins_with}
-use Rattle.aa_set_lines.specs.Lines.{lines}
+use Rattle.aa_set_commands.specs.Lines.{lines}
 use Rattle.aatry_folder.specs.declared.fault.Fault.{Fault}
 use Rattle.aatry_folder.specs.declared.fault.Fault.TheVariants.{Compressed}
 

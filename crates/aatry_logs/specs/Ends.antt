@@ -1,9 +1,9 @@
 -- With which faults it may end to gather logs.
 use Rattle.std.specs.Prelude.{◌≡◌, ◌⊎◌, ℕ, if◌then◌else◌, List, ◌∷◌, ◌++◌, None, Some}
-use Rattle.aaset_start.specs.Known.{Known}
+use Rattle.aa_start.specs.Known.{Known}
 use Rattle.aatry_folder.specs.declared.fault.Fault.{Fault}
 use Rattle.aatry_folder.specs.declared.fault.Fault.TheVariants.{Read}
-use Rattle.aatry_input.specs.Opened.{IsUnopened}
+use Rattle.aatry_logs.specs.Opened.{IsUnopened}
 use Rattle.aatry_logs.specs.Compressed.{IsOfCompressed}
 use Rattle.aatry_logs.specs.Gathered.{is_input}
 

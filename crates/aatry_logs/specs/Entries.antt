@@ -1,6 +1,6 @@
 -- What lines of a log tell, of which those can't be read that are longer than a line may be.
 use Rattle.std.specs.Prelude.{ℕ, Bool, true, false, nat_lt, ◌&&◌, if◌then◌else◌, List, length}
-use Rattle.aa_set_lines.specs.Limits.{longest_line}
+use Rattle.aa_set_commands.specs.Limits.{longest_line}
 use Rattle.aatry_log_lines.specs.Entries.{Entry, entry_by, unreadable_entry}
 use Rattle.aatry_log_lines.specs.Lines.{Asks, Disconnected, Interpreted, Learning, NoRequest, OtherRequest, Told, Unreadable}
 use Rattle.aatry_log_lines.specs.Selections.{Selection}

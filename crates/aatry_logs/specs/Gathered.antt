@@ -2,7 +2,7 @@
 use Rattle.std.specs.Prelude.{◌≡◌, ℕ, Bool, if◌then◌else◌, List, [], ◌∷◌, Option, None, Some, codes}
 use Rattle.std.specs.Str.{bytes_eq}
 use Rattle.aa_bytes.specs.Texts.{is_empty}
-use Rattle.aaset_start.specs.Known.{Known}
+use Rattle.aa_start.specs.Known.{Known}
 use Rattle.aatry_log_lines.specs.Selections.{Selection}
 use Rattle.aatry_logs.specs.Inputs.{IsGatheredFrom}
 use Rattle.aatry_logs.specs.LogRequests.{LogRequests}

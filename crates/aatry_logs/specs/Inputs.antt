@@ -1,6 +1,6 @@
 -- An input, gathered as a log, which comes line by line.
 use Rattle.std.specs.Prelude.{◌≡◌, ℕ, false, List, ◌++◌, Option, None, Some, ⊤}
-use Rattle.aa_set_lines.specs.Lines.{lines}
+use Rattle.aa_set_commands.specs.Lines.{lines}
 use Rattle.aatry_log_lines.specs.Selections.{Selection}
 use Rattle.aatry_logs.specs.Compressed.{begin_compressed}
 use Rattle.aatry_logs.specs.LogRequests.{LogRequests, begun, with_lines}

@@ -5,4 +5,6 @@ pub mod Entries
 pub mod Gathered
 pub mod Inputs
 pub mod LogRequests
+pub mod Opened
+pub mod OpenedInputs
 pub mod code

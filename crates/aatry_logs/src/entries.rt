@@ -6,7 +6,7 @@ ghost use Rattle.aatry_log_lines.specs.Lines.{NoRequest, seen_line};
 ghost use Rattle.aatry_log_lines.specs.Selections.{seen_selection};
 ghost use Rattle.aatry_logs.specs.Entries.{entry_in_log, passes_over, tells_something};
 
-use aa_set_lines::LONGEST_LINE;
+use aa_set_commands::LONGEST_LINE;
 use aatry_log_lines::{LogEntry, LogLine, Selection, entry_by};
 use std::alloc::{AllocError, Global};
 

@@ -11,10 +11,10 @@ ghost use Rattle.aatry_logs.specs.LogRequests.{nothing, seen_logs};
 ghost use Rattle.aatry_logs.specs.code.Reading.{left_by, was_read_by};
 
 use crate::log_requests::LogRequests;
-use aa_set_lines::{FromRead, Source};
-use aaset_start::FileSystem;
+use crate::opened::open_at;
+use aa_set_commands::{FromRead, Source};
+use aa_start::FileSystem;
 use aatry_folder::Fault;
-use aatry_input::open_at;
 use aatry_log_lines::Selection;
 use std::alloc::{AllocError, Global};
 

@@ -8,10 +8,10 @@ ghost use Rattle.aatry_logs.specs.Inputs.{IsAllTaken, IsGatheredFrom};
 ghost use Rattle.aatry_logs.specs.LogRequests.{seen_logs, with_line};
 
 use crate::compressed::{compressed, is_compressed};
+use crate::lines::{Lines, MOST_LINES, all_lines, next_line};
 use crate::log_requests::LogRequests;
-use aa_set_lines::Source;
+use aa_set_commands::Source;
 use aatry_folder::Fault;
-use aatry_input::{Lines, MOST_LINES, all_lines, next_line};
 use aatry_log_lines::Selection;
 use std::alloc::Global;
 

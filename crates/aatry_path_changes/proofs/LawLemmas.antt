@@ -4,11 +4,11 @@ use Rattle.std.proofs.lemmas.Bool.{and_parts, eqb-true, or_parts}
 use Rattle.std.proofs.lemmas.List.Elements.{All-cons, All-nil}
 use Rattle.std.specs.Prelude.{Contains, None, Option, Some, is_some, option_map}
 use Rattle.aa_bytes.specs.Texts.{is_empty}
-use Rattle.aa_decide_audit.specs.declared.verdict.Answer.{Answer}
-use Rattle.aa_decide_audit.specs.declared.verdict.Answer.TheVariants.{Allow, Complain, Deny, Refuse}
-use Rattle.aa_decide_audit.specs.declared.verdict.Tag.{Tag}
-use Rattle.aa_decide_audit.specs.declared.verdict.Tag.TheVariants.{Allowed, Audit, Denied}
-use Rattle.aa_decide_audit.specs.declared.verdict.Verdict.{Verdict}
+use Rattle.aa_decide_rules.specs.declared.verdict.Answer.{Answer}
+use Rattle.aa_decide_rules.specs.declared.verdict.Answer.TheVariants.{Allow, Complain, Deny, Refuse}
+use Rattle.aa_decide_rules.specs.declared.verdict.Tag.{Tag}
+use Rattle.aa_decide_rules.specs.declared.verdict.Tag.TheVariants.{Allowed, Audit, Denied}
+use Rattle.aa_decide_rules.specs.declared.verdict.Verdict.{Verdict}
 use Rattle.aa_explain_changes.specs.Changes.{change_between, change_by, change_of as change_of_letter, is_change, same_log, same_or, same_tag}
 use Rattle.aa_explain_changes.specs.FileChanges.{AreChangesOf, AreFileChanges, RuleChange, seen_rule_change}
 use Rattle.aa_explain_changes.specs.Laws.{LettersDecideSets, NoChangeIsHidden, NothingIsTold}

@@ -1,15 +1,15 @@
 -- Parts that answer alike.
 use Rattle.std.specs.Prelude.{◌≡◌, ◌<◌, ℕ, Bool, false, true, List, Contains}
 use Rattle.aa_decide_rules.specs.Verdict.{verdict}
-use Rattle.aa_decide_rules.specs.declared.verdict.Mediation.{Mediation}
+use Rattle.aa_decide_rules.specs.declared.judgement.Mediation.{Mediation}
 use Rattle.aa_explain_changes.specs.Changes.{change_of as change_of_letter, is_change}
 use Rattle.aa_explain_changes.specs.Sides.{Sides}
 use Rattle.aa_explain_changes.specs.declared.change.Change.TheVariants.{Same}
 use Rattle.aa_explain_paths.specs.Claims.{single_letters}
 use Rattle.aa_explain_paths.specs.Meant.{may_be_asked}
 use Rattle.aa_glob_nfa.specs.Graphs.{AreBytes}
-use Rattle.aa_profile_access.specs.Access.{all_letters}
-use Rattle.aa_profile_access.specs.Request.{ForFile}
+use Rattle.aa_profile_data.specs.Access.{all_letters}
+use Rattle.aa_profile_data.specs.Request.{ForFile}
 use Rattle.aatry_path_changes.specs.Finding.{Both, IsOfBoth, sides_of}
 use Rattle.aatry_path_changes.specs.Kinds.{is_same, kind_of_both}
 use Rattle.aatry_path_changes.specs.Others.{answers_of, change_of, request_of}

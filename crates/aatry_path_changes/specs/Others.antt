@@ -2,12 +2,12 @@
 use Rattle.std.specs.Prelude.{ℕ, zero, suc, Bool, false, true, if◌then◌else◌, List, [], ◌∷◌, ◌++◌}
 use Rattle.std.specs.List.{list_any}
 use Rattle.aa_decide_rules.specs.Verdict.{verdict}
-use Rattle.aa_decide_rules.specs.declared.verdict.Mediation.TheVariants.{Enforcing}
+use Rattle.aa_decide_rules.specs.declared.judgement.Mediation.TheVariants.{Enforcing}
 use Rattle.aa_explain_changes.specs.Changes.{change_between, is_change}
 use Rattle.aa_explain_changes.specs.Sides.{Sides}
 use Rattle.aa_explain_changes.specs.declared.change.Change.{Change}
 use Rattle.aa_explain_changes.specs.declared.change.Change.TheVariants.{Gained, Lost, Otherwise, Same}
-use Rattle.aa_profile_access.specs.Request.{ForCapability, ForSockets, Request}
+use Rattle.aa_profile_data.specs.Request.{ForCapability, ForSockets, Request}
 use Rattle.aa_explain_changes.specs.declared.change.Answers.{Answers}
 use Rattle.aatry_path_changes.specs.declared.others.Other.{Other}
 use Rattle.aatry_path_changes.specs.declared.others.Other.TheVariants.{Capability, Sockets}

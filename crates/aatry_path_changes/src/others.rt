@@ -2,12 +2,12 @@
 
 ghost use Rattle.std.specs.Prelude.{◌≡◌, ◌++◌, ◌<◌, IfOk, OnOk};
 ghost use Rattle.aa_explain_changes.specs.Sides.{seen_sides};
-ghost use Rattle.aa_profile_access.specs.SeenRequests.{request_of as seen_request};
+ghost use Rattle.aa_profile_data.specs.SeenRequests.{request_of as seen_request};
 ghost use Rattle.aatry_path_changes.specs.Others.{answers_of, capability_changes, change_of, changed_by, changed_if, has_gained, has_lost, is_gained, is_lost, other_changes, request_of, socket_changes, type_changes};
 
 use aa_decide_rules::{Mediation, rules_verdict};
 use aa_explain_changes::{Answers, Change, Sides, change_between};
-use aa_profile_access::Request;
+use aa_profile_data::Request;
 use std::alloc::{AllocError, Global};
 
 /// What can be asked for that is no file.

@@ -7,22 +7,22 @@ use Rattle.std.proofs.lemmas.List.Elements.{All-append, All-cons, All-contains, 
 use Rattle.std.proofs.lemmas.Grind.{flat_map-append}
 use Rattle.std.specs.List.{All, list_all}
 use Rattle.aa_decide.specs.Exec.{Asker}
-use Rattle.aa_decide_slots.specs.Named.{have_distinct_names, profiles_of}
-use Rattle.aa_decide_slots.specs.Entries.{Loaded}
+use Rattle.aa_decide_ready.specs.Named.{have_distinct_names, profiles_of}
+use Rattle.aa_decide_ready.specs.Entries.{Loaded}
 use Rattle.aa_profile.specs.FilePlaces.{file_places_in}
 use Rattle.aa_profile.specs.FileReading.{file_profiles_in}
 use Rattle.aa_profile.specs.ProfileNames.{has_distinct_children, is_named_well}
 use Rattle.aa_profile_data.specs.Profile.{are_distinct}
 use Rattle.aa_profile_data.specs.declared.profile.Profile.{Profile}
-use Rattle.aa_profile_errors.specs.declared.profile_error.ProfileError.{ProfileError}
+use Rattle.aa_profile_parsing.specs.declared.profile_error.ProfileError.{ProfileError}
 use Rattle.aa_profile_parsing.specs.declared.language.Language.{Language}
-use Rattle.aa_profile_patterns.specs.declared.places.ProfilePlaces.{ProfilePlaces}
+use Rattle.aa_profile_grammar.specs.declared.places.ProfilePlaces.{ProfilePlaces}
 use Rattle.aa_set_manager.specs.Manager.{Managed, after_change, after_commit, made, new_manager_in}
 use Rattle.aa_set_answers.specs.Askers.{asker}
 use Rattle.aa_set_answers.specs.Laws.{HasFileNames, IsListed, ListedNamesLeadBack}
-use Rattle.aa_set_changes.specs.ChangeLaws.{ChangesKeepNamesApart}
-use Rattle.aa_set_changes.specs.Changes.{are_there, by_file, changed, loaded as taken_by, profile_count, with_added}
-use Rattle.aa_set_changes.specs.declared.settings.Settings.{Settings}
+use Rattle.aa_set_manager.specs.ChangeLaws.{ChangesKeepNamesApart}
+use Rattle.aa_set_manager.specs.Changes.{are_there, by_file, changed, loaded as taken_by, profile_count, with_added}
+use Rattle.aa_set_manager.specs.declared.settings.Settings.{Settings}
 use Rattle.aa_set_commands.specs.Command.{Add}
 use Rattle.aa_set_commands.specs.Refusal.{plain, refusal_of_profile}
 use Rattle.aa_set_commands.specs.declared.refusal.Refusal.{Refusal}

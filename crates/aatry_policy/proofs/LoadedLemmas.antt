@@ -4,14 +4,14 @@ use Rattle.std.specs.Prelude.{IfOk}
 use Rattle.std.proofs.lemmas.Bool.{and_parts}
 use Rattle.std.proofs.lemmas.List.Elements.{All-append, All-cons, All-contains, All-head, All-nil, All-tail}
 use Rattle.std.specs.List.{All, Contains, list_all}
-use Rattle.aa_decide_slots.specs.Entries.{Loaded}
+use Rattle.aa_decide_ready.specs.Entries.{Loaded}
 use Rattle.aa_profile.specs.FileReading.{file_profiles_in}
 use Rattle.aa_profile.specs.ProfileNames.{has_distinct_children, is_named_well}
 use Rattle.aa_profile_data.specs.declared.profile.Profile.{Profile}
-use Rattle.aa_profile_errors.specs.declared.profile_error.ProfileError.{ProfileError}
+use Rattle.aa_profile_parsing.specs.declared.profile_error.ProfileError.{ProfileError}
 use Rattle.aa_profile_parsing.specs.declared.language.Language.{Language}
 use Rattle.aa_set_answers.specs.Laws.{HasFileNames}
-use Rattle.aa_set_changes.specs.ChangeLaws.{ChangesKeepNamesApart}
+use Rattle.aa_set_manager.specs.ChangeLaws.{ChangesKeepNamesApart}
 use Rattle.aa_text_files.specs.Files.{File}
 use Rattle.aatry_folder.specs.Loadings.{file_names}
 use Rattle.aatry_policy.proofs.LoadLemmas.{HaveNames, all-named, folder-profiles, of-entries}

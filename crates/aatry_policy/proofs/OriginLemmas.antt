@@ -1,7 +1,7 @@
 -- The origins of a file's profiles, one behind the other.
 use Rattle.std.proofs.Common.{◌≡◌, ◌∙◌, ℕ, List, [], ◌∷◌, ◌++◌, ap, append_assoc, drop, refl, sym}
 use Rattle.aa_profile_data.specs.declared.profile.Profile.{Profile}
-use Rattle.aa_profile_patterns.specs.declared.places.ProfilePlaces.{ProfilePlaces}
+use Rattle.aa_profile_grammar.specs.declared.places.ProfilePlaces.{ProfilePlaces}
 use Rattle.aatry_policy.specs.Origins.{file_origins}
 use Rattle.aatry_policy.specs.declared.origins.Origin.{Origin}
 

@@ -7,7 +7,7 @@ use Rattle.std.proofs.lemmas.Slice.Eq.{bytes_eq-Decides}
 use Rattle.std.specs.List.{All, Contains}
 use Rattle.std.specs.Str.{bytes_eq}
 use Rattle.aa_decide.specs.Exec.{Asker}
-use Rattle.aa_decide_slots.specs.Entries.{Loaded}
+use Rattle.aa_decide_ready.specs.Entries.{Loaded}
 use Rattle.aa_decide_ready.specs.Ready.{audits, child_audits, child_rules, rules_at}
 use Rattle.aa_decide_ready.specs.Visits.{child_attachments}
 use Rattle.aa_profile_data.specs.declared.profile.Child.{Child}

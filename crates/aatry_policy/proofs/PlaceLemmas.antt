@@ -6,8 +6,8 @@ use Rattle.std.proofs.lemmas.List.Elements.{All-append, All-cons, All-head, All-
 use Rattle.std.specs.List.{All, Contains}
 use Rattle.std.specs.Option.{option_map}
 use Rattle.std.specs.Str.{bytes_eq}
-use Rattle.aa_decide_slots.specs.Entries.{Loaded}
-use Rattle.aa_decide_slots.specs.Named.{entry_named, profiles_of}
+use Rattle.aa_decide_ready.specs.Entries.{Loaded}
+use Rattle.aa_decide_ready.specs.Named.{entry_named, profiles_of}
 use Rattle.aa_decide_ready.specs.Ready.{child_rules, rules_at}
 use Rattle.aa_profile.specs.Assignments.{variables_of}
 use Rattle.aa_profile.specs.FilePlaces.{file_places_in}
@@ -18,15 +18,15 @@ use Rattle.aa_profile_data.specs.declared.profile.Profile.{Profile}
 use Rattle.aa_profile_grammar.specs.Blocks.{Child as WrittenChild, Profile as WrittenProfile}
 use Rattle.aa_profile_grammar.specs.Files.{File as WrittenFile, file}
 use Rattle.aa_profile_parsing.specs.declared.language.Language.{Language}
-use Rattle.aa_profile_patterns.specs.PatternTokens.{of_profiles}
-use Rattle.aa_profile_patterns.specs.declared.places.ProfilePlaces.{ProfilePlaces}
-use Rattle.aa_profile_patterns.specs.declared.places.SectionPlaces.{SectionPlaces}
-use Rattle.aa_set_changes.specs.ChangeLaws.{ChangesKeepNamesApart}
+use Rattle.aa_profile_grammar.specs.PatternTokens.{of_profiles}
+use Rattle.aa_profile_grammar.specs.declared.places.ProfilePlaces.{ProfilePlaces}
+use Rattle.aa_profile_grammar.specs.declared.places.SectionPlaces.{SectionPlaces}
+use Rattle.aa_set_manager.specs.ChangeLaws.{ChangesKeepNamesApart}
 use Rattle.aa_set_answers.specs.Laws.{StandsAt}
 use Rattle.aa_text_files.specs.Files.{File}
-use Rattle.aa_text_splicing.specs.Splicing.{Placed, spliced}
+use Rattle.aa_text_tokens.specs.Splicing.{Placed, spliced}
 use Rattle.aa_text_variables.specs.Variables.{Variable}
-use Rattle.aa_set_changes.specs.Changes.{loaded as taken_by}
+use Rattle.aa_set_manager.specs.Changes.{loaded as taken_by}
 use Rattle.aatry_folder.specs.Loadings.{file_names}
 use Rattle.aatry_policy.proofs.LoadLemmas.{file-is, folder-profiles, taken}
 use Rattle.aatry_policy.proofs.ReadLemmas.{IsRead, all-read, placed}

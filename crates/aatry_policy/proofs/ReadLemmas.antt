@@ -7,21 +7,21 @@ use Rattle.std.specs.List.{All, list_all}
 use Rattle.aa_profile.specs.Assignments.{variables_of}
 use Rattle.aa_profile.specs.FilePlaces.{file_places_in, places_in, places_of}
 use Rattle.aa_profile.specs.FileReading.{file_profiles_in, profiles_in, profiles_of}
-use Rattle.aa_profile_patterns.specs.PatternTokens.{of_profiles}
+use Rattle.aa_profile_grammar.specs.PatternTokens.{of_profiles}
 use Rattle.aa_profile.specs.ProfileNames.{has_distinct_children, is_child_named_well, is_named_well}
 use Rattle.aa_profile_data.specs.declared.profile.Profile.{Profile}
-use Rattle.aa_profile_errors.specs.ProfileError.{error_of_grammar, refusal_of_text}
-use Rattle.aa_profile_errors.specs.declared.profile_error.ProfileError.{ProfileError}
+use Rattle.aa_profile_parsing.specs.ProfileError.{error_of_grammar, refusal_of_text}
+use Rattle.aa_profile_parsing.specs.declared.profile_error.ProfileError.{ProfileError}
 use Rattle.aa_profile_grammar.specs.Files.{File as WrittenFile, file}
-use Rattle.aa_profile_access.specs.Names.{is_top_name}
+use Rattle.aa_profile_data.specs.Names.{is_top_name}
 use Rattle.aa_profile_parsing.specs.declared.grammar_error.GrammarError.{GrammarError}
 use Rattle.aa_profile_parsing.specs.declared.language.Language.{Language}
-use Rattle.aa_profile_patterns.specs.Places.{places_of_profile}
-use Rattle.aa_profile_patterns.specs.declared.places.ProfilePlaces.{ProfilePlaces}
+use Rattle.aa_profile_grammar.specs.Places.{places_of_profile}
+use Rattle.aa_profile_grammar.specs.declared.places.ProfilePlaces.{ProfilePlaces}
 use Rattle.aa_set_answers.specs.Laws.{HasFileNames}
 use Rattle.aa_set_commands.specs.declared.refusal.Refusal.{Refusal}
 use Rattle.aa_text_files.specs.Files.{File}
-use Rattle.aa_text_splicing.specs.Splicing.{Fault, Placed, spliced}
+use Rattle.aa_text_tokens.specs.Splicing.{Fault, Placed, spliced}
 use Rattle.aa_text_variables.specs.Variables.{Variable}
 use Rattle.aatry_policy.specs.Profiles.{FileProfiles, file_at, file_if_taken, read_profiles}
 

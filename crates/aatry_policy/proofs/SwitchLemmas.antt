@@ -5,13 +5,13 @@ use Rattle.std.proofs.lemmas.List.{append_assoc, map-append}
 use Rattle.std.proofs.lemmas.Slice.Eq.{bytes_eq-Decides}
 use Rattle.std.specs.List.{list_any}
 use Rattle.std.specs.Str.{bytes_eq}
-use Rattle.aa_decide_slots.specs.Entries.{Loaded, is_in_force}
-use Rattle.aa_decide_slots.specs.Named.{entry_named, have_distinct_names, profiles_of}
-use Rattle.aa_decide_slots.specs.declared.entry.State.{State}
+use Rattle.aa_decide_ready.specs.Entries.{Loaded, is_in_force}
+use Rattle.aa_decide_ready.specs.Named.{entry_named, have_distinct_names, profiles_of}
+use Rattle.aa_decide_ready.specs.declared.entry.State.{State}
 use Rattle.aa_profile_data.specs.Profile.{are_distinct, is_named as is_profile_named}
 use Rattle.aa_profile_data.specs.declared.profile.Mode.TheVariants.{Complain as ComplainMode}
 use Rattle.aa_profile_data.specs.declared.profile.Profile.{Profile}
-use Rattle.aa_set_changes.specs.Changes.{disabled, in_force, loaded as taken_by, put, with_disabled, with_mode}
+use Rattle.aa_set_manager.specs.Changes.{disabled, in_force, loaded as taken_by, put, with_disabled, with_mode}
 use Rattle.aa_set_commands.specs.Refusal.{plain}
 use Rattle.aa_set_commands.specs.declared.refusal.Refusal.{Refusal}
 use Rattle.aa_set_commands.specs.declared.refusal.RefusalKind.TheVariants.{Absent, Disabled}

@@ -3,11 +3,11 @@ use Rattle.std.proofs.Common.{◌≡◌, ℕ, true, false, List, Result, Ok, Err
 use Rattle.std.specs.Prelude.{is_err}
 use Rattle.aa_profile.specs.FileReading.{file_profiles_in, profiles_of}
 use Rattle.aa_profile_data.specs.declared.profile.Profile.{Profile}
-use Rattle.aa_profile_errors.specs.ProfileError.{refusal_of_text}
-use Rattle.aa_profile_errors.specs.declared.profile_error.ProfileError.{ProfileError}
+use Rattle.aa_profile_parsing.specs.ProfileError.{refusal_of_text}
+use Rattle.aa_profile_parsing.specs.declared.profile_error.ProfileError.{ProfileError}
 use Rattle.aa_profile_parsing.specs.declared.language.Language.{Language}
 use Rattle.aa_text_files.specs.Files.{File}
-use Rattle.aa_text_splicing.specs.Splicing.{Fault, Placed, spliced}
+use Rattle.aa_text_tokens.specs.Splicing.{Fault, Placed, spliced}
 
 -- a file whose splicing comes to a fault is refused
 pub refused-unspliced : (language : Language) (files : List File) (name : List ℕ) → is_err (spliced files name) ≡ true

@@ -1,11 +1,11 @@
 -- Folders of policy, and the policy sets that they make.
 use Rattle.std.specs.Prelude.{ℕ, Bool, List, false, map, Option}
-use Rattle.aa_decide_slots.specs.Entries.{Loaded}
+use Rattle.aa_decide_ready.specs.Entries.{Loaded}
 use Rattle.aa_profile_parsing.specs.declared.language.Language.{Language}
 use Rattle.aa_set_manager.specs.Manager.{Managed, new_manager_in}
 use Rattle.aa_set_commands.specs.declared.refusal.Refusal.{Refusal}
 use Rattle.aa_text_files.specs.Files.{File}
-use Rattle.aaset_start.specs.declared.readable.UnreadFault.{UnreadFault}
+use Rattle.aa_start.specs.declared.readable.UnreadFault.{UnreadFault}
 use Rattle.aatry_folder.specs.Loadings.{TopFile, file_names, seen_top}
 use Rattle.aatry_folder.specs.declared.policy_folder.PolicyFolder.{PolicyFolder}
 use Rattle.aatry_folder.specs.PolicyFiles.{PolicyFiles}

@@ -1,7 +1,7 @@
 -- What the laws on parts speak of: those that have what who has their full name has.
 use Rattle.std.specs.Prelude.{◌≡◌, ℕ, List, Some}
 use Rattle.aa_decide.specs.Exec.{Asker}
-use Rattle.aa_decide_slots.specs.Entries.{Loaded}
+use Rattle.aa_decide_ready.specs.Entries.{Loaded}
 use Rattle.aa_decide_ready.specs.Ready.{audits, rules_at}
 use Rattle.aa_decide_ready.specs.Visits.{attachments_at}
 use Rattle.aa_explain.specs.AlikePolicies.{mode_in}

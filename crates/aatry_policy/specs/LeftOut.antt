@@ -8,8 +8,8 @@ use Rattle.aa_set_commands.specs.Refusal.{name_of, number_of}
 use Rattle.aa_set_commands.specs.declared.refusal.Refusal.{Refusal}
 use Rattle.aa_text_files.specs.Files.{File, bytes_at, name_at}
 use Rattle.aa_text_files.specs.declared.text_error.Place.{Place}
-use Rattle.aaset_start.specs.Readable.{unread_in, words_of}
-use Rattle.aaset_start.specs.declared.readable.UnreadFault.{UnreadFault}
+use Rattle.aa_start.specs.Readable.{unread_in, words_of}
+use Rattle.aa_start.specs.declared.readable.UnreadFault.{UnreadFault}
 use Rattle.aatry_refusal_words.specs.Refusals.{refusal_words}
 use Rattle.aatry_report.specs.Columns.{column}
 use Rattle.aatry_report.specs.FilePlaces.{path_below}

@@ -1,9 +1,9 @@
 -- The profiles that a folder of policy loads, each as its file says: by its flags, in complain mode, or disabled.
 use Rattle.std.specs.Prelude.{true, false, List, [], ◌∷◌, ◌++◌, map, Option}
-use Rattle.aa_decide_slots.specs.Entries.{Loaded}
+use Rattle.aa_decide_ready.specs.Entries.{Loaded}
 use Rattle.aa_profile_data.specs.declared.profile.Profile.{Profile}
 use Rattle.aa_profile_parsing.specs.declared.language.Language.{Language}
-use Rattle.aa_set_changes.specs.Changes.{disabled, loaded}
+use Rattle.aa_set_manager.specs.Changes.{disabled, loaded}
 use Rattle.aa_set_commands.specs.declared.refusal.Refusal.{Refusal}
 use Rattle.aa_text_files.specs.Files.{File}
 use Rattle.aatry_folder.specs.Loadings.{TopFile}

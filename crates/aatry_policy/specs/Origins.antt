@@ -2,8 +2,8 @@
 use Rattle.std.specs.Prelude.{ℕ, List, [], ◌∷◌, Option, None, Some, find, flat_map, slice_get}
 use Rattle.std.specs.Str.{bytes_eq}
 use Rattle.aa_profile_data.specs.declared.profile.Profile.{Profile}
-use Rattle.aa_profile_patterns.specs.declared.places.ProfilePlaces.{ProfilePlaces}
-use Rattle.aa_profile_patterns.specs.declared.places.SectionPlaces.{SectionPlaces}
+use Rattle.aa_profile_grammar.specs.declared.places.ProfilePlaces.{ProfilePlaces}
+use Rattle.aa_profile_grammar.specs.declared.places.SectionPlaces.{SectionPlaces}
 use Rattle.aa_set_commands.specs.declared.refusal.Refusal.{Refusal}
 use Rattle.aa_text_files.specs.declared.text_error.Place.{Place}
 use Rattle.aatry_policy.specs.Profiles.{FileProfiles}

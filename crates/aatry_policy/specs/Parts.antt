@@ -1,8 +1,8 @@
 -- The parts of a policy set: its profiles, and the children and hats of these, each with its state and with where its rules are written.
 use Rattle.std.specs.Prelude.{ℕ, ◌+◌, false, if◌then◌else◌, List, [], ◌∷◌, ◌++◌, Option, None, Some}
 use Rattle.std.specs.Str.{bytes_eq}
-use Rattle.aa_decide_slots.specs.Entries.{Loaded}
-use Rattle.aa_decide_slots.specs.declared.entry.State.{State}
+use Rattle.aa_decide_ready.specs.Entries.{Loaded}
+use Rattle.aa_decide_ready.specs.declared.entry.State.{State}
 use Rattle.aa_explain.specs.AlikePolicies.{mode_in}
 use Rattle.aa_explain_diff.specs.Sections.{Section}
 use Rattle.aa_profile_data.specs.declared.profile.Child.{Child}

@@ -2,7 +2,7 @@
 use Rattle.std.specs.Prelude.{◌≡◌, ℕ, List, [], ◌∷◌, Option, None, Some, Ok, slice_get}
 use Rattle.std.specs.List.{Contains}
 use Rattle.std.specs.Option.{option_map}
-use Rattle.aa_decide_slots.specs.Entries.{Loaded}
+use Rattle.aa_decide_ready.specs.Entries.{Loaded}
 use Rattle.aa_profile.specs.Assignments.{variables_of}
 use Rattle.aa_profile.specs.FilePlaces.{file_places_in}
 use Rattle.aa_profile.specs.FileReading.{file_profiles_in}
@@ -12,12 +12,12 @@ use Rattle.aa_profile_data.specs.declared.profile.Rule.{Rule}
 use Rattle.aa_profile_grammar.specs.Blocks.{Profile as WrittenProfile}
 use Rattle.aa_profile_grammar.specs.Files.{File as WrittenFile, file}
 use Rattle.aa_profile_parsing.specs.declared.language.Language.{Language}
-use Rattle.aa_profile_patterns.specs.PatternTokens.{of_profiles}
-use Rattle.aa_profile_patterns.specs.declared.places.ProfilePlaces.{ProfilePlaces}
+use Rattle.aa_profile_grammar.specs.PatternTokens.{of_profiles}
+use Rattle.aa_profile_grammar.specs.declared.places.ProfilePlaces.{ProfilePlaces}
 use Rattle.aa_profile_rules.specs.Rules.{Rule as WrittenRule}
 use Rattle.aa_text_files.specs.Files.{File}
 use Rattle.aa_text_files.specs.declared.text_error.Place.{Place}
-use Rattle.aa_text_splicing.specs.Splicing.{Placed, spliced}
+use Rattle.aa_text_tokens.specs.Splicing.{Placed, spliced}
 use Rattle.aa_text_variables.specs.Variables.{Variable}
 use Rattle.aatry_policy.specs.Origins.{origin_in}
 use Rattle.aatry_policy.specs.Parts.{Part}

@@ -4,7 +4,7 @@ use Rattle.aa_text_files.specs.Files.{File}
 use Rattle.aa_profile.specs.FileReading.{file_profiles_in}
 use Rattle.aa_profile_data.specs.declared.profile.Mode.TheVariants.{Complain as ComplainMode}
 use Rattle.aa_profile_data.specs.declared.profile.Profile.{Profile}
-use Rattle.aa_profile_errors.specs.declared.profile_error.ProfileError.{ProfileError}
+use Rattle.aa_profile_parsing.specs.declared.profile_error.ProfileError.{ProfileError}
 use Rattle.aa_set_commands.specs.Command.{Add}
 use Rattle.aa_set_commands.specs.declared.refusal.Refusal.{Refusal}
 use Rattle.aa_set_manager.specs.Manager.{Managed, disabled, in_mode, made}

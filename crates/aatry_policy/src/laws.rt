@@ -3,8 +3,8 @@
 ghost use Rattle.std.specs.Prelude.{◌≡◌, ℕ, Bool, List, Ok, Option, Some, is_err, map, true};
 ghost use Rattle.std.specs.List.{All};
 ghost use Rattle.aa_decide.specs.Exec.{Asker};
-ghost use Rattle.aa_decide_slots.specs.Entries.{Loaded};
-ghost use Rattle.aa_decide_slots.specs.Named.{entry_named};
+ghost use Rattle.aa_decide_ready.specs.Entries.{Loaded};
+ghost use Rattle.aa_decide_ready.specs.Named.{entry_named};
 ghost use Rattle.aa_decide_ready.specs.Ready.{rules_at};
 ghost use Rattle.aa_profile.specs.FileReading.{file_profiles_in};
 ghost use Rattle.aa_profile_data.specs.declared.profile.Profile.{Profile};
@@ -12,10 +12,10 @@ ghost use Rattle.aa_profile_parsing.specs.declared.language.Language.{Language};
 ghost use Rattle.aa_set_answers.specs.Askers.{asker};
 ghost use Rattle.aa_set_answers.specs.Laws.{IsListed, StandsAt};
 ghost use Rattle.aa_set_answers.specs.ProfileNames.{full_name_at};
-ghost use Rattle.aa_set_changes.specs.Changes.{loaded};
+ghost use Rattle.aa_set_manager.specs.Changes.{loaded};
 ghost use Rattle.aa_text_files.specs.Files.{File, file_at as place_of};
-ghost use Rattle.aaset_start.specs.Readable.{AreTakenSo, unread_at};
-ghost use Rattle.aaset_start.specs.declared.readable.UnreadFault.{UnreadFault};
+ghost use Rattle.aa_start.specs.Readable.{AreTakenSo, unread_at};
+ghost use Rattle.aa_start.specs.declared.readable.UnreadFault.{UnreadFault};
 ghost use Rattle.aatry_folder.specs.Reaching.{Reaches};
 ghost use Rattle.aatry_policy.specs.Laws.{HasOwnRules};
 ghost use Rattle.aatry_policy.specs.Folders.{Folder, origins_in, policy_in};
@@ -27,8 +27,8 @@ ghost use Rattle.aatry_policy.specs.declared.origins.Origin.{Origin};
 
 use aa_profile::{how_profiles_are_named, where_rules_are_made};
 use aa_set_answers::where_listed_names_lead;
-use aa_set_changes::what_changes_keep;
-use aaset_start::FileSystem;
+use aa_set_manager::what_changes_keep;
+use aa_start::FileSystem;
 use aatry_folder::what_cannot_be_read_is_never_entered;
 
 /// Of each profile, child and hat that the files of a folder load, its full name leads back to it as a name that asks; and the folder has a part of that

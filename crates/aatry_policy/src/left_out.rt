@@ -13,7 +13,7 @@ ghost use Rattle.aatry_report.specs.Shown.{shown};
 use crate::left_out_files::{LeftOut, left_out_of};
 use crate::refusals::{push_worded, put_worded};
 use aa_set_commands::Refusal;
-use aaset_start::unread_in;
+use aa_start::unread_in;
 use aatry_folder::PolicyFolder;
 use aatry_report::{Form, Record, Teller, path_below, push_shown};
 use std::alloc::{AllocError, Global};

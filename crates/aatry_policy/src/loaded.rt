@@ -2,8 +2,8 @@
 
 ghost use Rattle.std.specs.Prelude.{◌≡◌, ℕ, List, true};
 ghost use Rattle.std.specs.List.{Contains};
-ghost use Rattle.aa_decide_slots.specs.Entries.{Loaded};
-ghost use Rattle.aa_decide_slots.specs.Named.{have_distinct_names};
+ghost use Rattle.aa_decide_ready.specs.Entries.{Loaded};
+ghost use Rattle.aa_decide_ready.specs.Named.{have_distinct_names};
 ghost use Rattle.aa_profile.specs.ReadPatterns.{HasReadPatterns};
 ghost use Rattle.aa_profile_data.specs.Conflicts.{profile_agrees};
 ghost use Rattle.aa_set_answers.specs.Laws.{HasFileNames};
@@ -13,7 +13,7 @@ ghost use Rattle.aatry_policy.specs.Laws.{IsFirstIn};
 ghost use Rattle.aatry_policy.specs.Loaded.{entries_in};
 
 use aa_profile::{how_profiles_are_named, which_patterns_read, which_rules_agree};
-use aa_set_changes::what_changes_keep;
+use aa_set_manager::what_changes_keep;
 
 /// No two profiles that the files of a folder load have one name, and the names of each are as the grammar says, with no two children or hats of one.
 /// They are those of the files that are taken, one file's behind the other's, each loaded as its file is to be: in force, it and its children and

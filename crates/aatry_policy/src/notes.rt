@@ -2,7 +2,7 @@
 
 ghost use Rattle.std.specs.Prelude.{◌≡◌, ◌++◌, OnOk};
 ghost use Rattle.std.specs.Str.{bytes_eq};
-ghost use Rattle.aa_options.specs.Options.{default_base};
+ghost use Rattle.aa_start.specs.Options.{default_base};
 ghost use Rattle.aatry_policy.specs.Notes.{base_option, files_text, language_option, left_out_count, note_on, several_text};
 
 use aa_profile_parsing::Language;

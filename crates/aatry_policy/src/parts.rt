@@ -1,7 +1,7 @@
 //! The parts of a policy set: its profiles, and the children and hats of these, with their states and with where they are written.
 
 ghost use Rattle.std.specs.Prelude.{◌≡◌, ◌++◌, Some, IfOk, OnOk, map, option_map};
-ghost use Rattle.aa_decide_slots.specs.Slots.{filled};
+ghost use Rattle.aa_decide_ready.specs.Slots.{filled};
 ghost use Rattle.aa_explain.specs.AlikePolicies.{mode_in};
 ghost use Rattle.aa_explain_diff.specs.Sections.{seen_section};
 ghost use Rattle.aatry_policy.specs.Parts.{child_part, child_parts, child_section, first_of, part_of, profile_part, profile_parts, profile_section, set_parts};
@@ -15,7 +15,7 @@ use aa_decide_rules::Mediation;
 use aa_explain_diff::Section;
 use aa_profile_data::{Child, Mode};
 use aa_set_answers::full_name;
-use aa_set_changes::PolicySet;
+use aa_set_manager::PolicySet;
 use aa_text_files::Place;
 use std::alloc::{AllocError, Global};
 

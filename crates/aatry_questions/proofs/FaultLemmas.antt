@@ -2,15 +2,15 @@
 use Rattle.std.proofs.Common.{◌≡◌, ℕ, Bool, true, false, List, [], ◌∷◌, refl, ap}
 use Rattle.std.specs.Prelude.{⊤, Option, None, Some, Ok, Err, codes, if◌then◌else◌, is_some, option_and_then}
 use Rattle.std.specs.Str.{bytes_eq}
-use Rattle.aa_profile_access.specs.Access.{bit_of, has, letters_onto, needs_of, union}
-use Rattle.aa_profile_access.specs.Request.{ForFile}
-use Rattle.aa_profile_tables.specs.Capabilities.{capability_number}
-use Rattle.aa_profile_tables.specs.Domains.{domain_number}
+use Rattle.aa_profile_data.specs.Access.{bit_of, has, letters_onto, needs_of, union}
+use Rattle.aa_profile_data.specs.Request.{ForFile}
+use Rattle.aa_profile_data.specs.Capabilities.{capability_number}
+use Rattle.aa_profile_data.specs.Domains.{domain_number}
 use Rattle.aa_set_commands.specs.Question.{OfAccess, OfExec, capability_question, exec_question, file_question, is_path, owned_of, question_of, socket_question, type_number}
 use Rattle.aa_set_commands.specs.Refusal.{plain}
 use Rattle.aa_set_commands.specs.declared.refusal.RefusalKind.TheVariants.{BadCommand, BadRequest}
-use Rattle.aatry_kernel_words.specs.Capabilities.{capability_meant}
-use Rattle.aatry_kernel_words.specs.Masks.{asked_letter, is_mask, needs_meant, needs_of_mask, needs_onto}
+use Rattle.aatry_words.specs.Capabilities.{capability_meant}
+use Rattle.aatry_words.specs.Masks.{asked_letter, is_mask, needs_meant, needs_of_mask, needs_onto}
 use Rattle.aatry_questions.specs.Faults.{Agree, Found, access_fault, exec_fault, first_fault, found, kind_fault, kind_of, letters_fault, question_fault, refusal_of, unless}
 use Rattle.aatry_questions.specs.Meant.{mask_fault, meant_fault, needs_fault, question_meant}
 use Rattle.aatry_questions.specs.declared.faults.QuestionKind.{QuestionKind}

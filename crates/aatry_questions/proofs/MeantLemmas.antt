@@ -2,14 +2,14 @@
 use Rattle.std.proofs.Common.{◌≡◌, ℕ, Bool, true, false, List, [], ◌∷◌, Option, None, Some, refl, ap, ◌∙◌}
 use Rattle.std.specs.Prelude.{Err, IsSome, Ok, codes, if◌then◌else◌, is_some}
 use Rattle.std.specs.Str.{bytes_eq}
-use Rattle.aa_profile_access.specs.Access.{needs_of}
-use Rattle.aa_profile_tables.specs.Capabilities.{capability_number}
+use Rattle.aa_profile_data.specs.Access.{needs_of}
+use Rattle.aa_profile_data.specs.Capabilities.{capability_number}
 use Rattle.aa_set_commands.specs.Question.{Question, capability_question, file_question, owned_of, question_of}
 use Rattle.aa_set_commands.specs.Refusal.{plain}
 use Rattle.aa_set_commands.specs.declared.refusal.RefusalKind.TheVariants.{BadCommand}
-use Rattle.aatry_kernel_words.specs.Capabilities.{capability_meant}
-use Rattle.aatry_kernel_words.specs.Laws.{IsMeant}
-use Rattle.aatry_kernel_words.specs.Masks.{needs_meant}
+use Rattle.aatry_words.specs.Capabilities.{capability_meant}
+use Rattle.aatry_words.specs.Laws.{IsMeant}
+use Rattle.aatry_words.specs.Masks.{needs_meant}
 use Rattle.aatry_questions.specs.Meant.{question_meant}
 
 abbrev NamesMean : Type 0

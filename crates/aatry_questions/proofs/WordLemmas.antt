@@ -1,7 +1,7 @@
 -- Words by their number.
 use Rattle.std.proofs.Common.{◌≡◌, ◌≢◌, ℕ, ◌<◌, ◌≤◌, List, [], ◌∷◌, Some, arith, length, map, refl, slice_index_or}
 use Rattle.aa_set_commands.specs.Question.{question_of}
-use Rattle.aatry_kernel_words.specs.Capabilities.{capability_meant}
+use Rattle.aatry_words.specs.Capabilities.{capability_meant}
 use Rattle.aatry_questions.specs.Faults.{kind_fault, question_fault}
 use Rattle.aatry_questions.specs.Meant.{meant_fault, question_meant}
 

@@ -1,9 +1,9 @@
 -- What is wrong with the words of a question (docs/commands.md, "Questions").
 use Rattle.std.specs.Prelude.{◌≡◌, ℕ, ⊤, Bool, if◌then◌else◌, List, [], ◌∷◌, Option, None, Some, Result, Ok, Err, codes, is_some}
 use Rattle.std.specs.Str.{bytes_eq}
-use Rattle.aa_profile_access.specs.Access.{bit_of, has, union}
-use Rattle.aa_profile_tables.specs.Capabilities.{capability_number}
-use Rattle.aa_profile_tables.specs.Domains.{domain_number}
+use Rattle.aa_profile_data.specs.Access.{bit_of, has, union}
+use Rattle.aa_profile_data.specs.Capabilities.{capability_number}
+use Rattle.aa_profile_data.specs.Domains.{domain_number}
 use Rattle.aa_set_commands.specs.Question.{Question, is_path, owned_of, type_number}
 use Rattle.aa_set_commands.specs.Refusal.{plain}
 use Rattle.aa_set_commands.specs.declared.refusal.Refusal.{Refusal}

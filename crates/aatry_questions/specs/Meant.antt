@@ -1,14 +1,14 @@
 -- The words of a question to `aatry`, which may be written as the kernel, its log and its tools write them (docs/aatry.md, "Why").
 use Rattle.std.specs.Prelude.{ℕ, if◌then◌else◌, List, [], ◌∷◌, Option, None, Some, Result, Err, codes}
 use Rattle.std.specs.Str.{bytes_eq}
-use Rattle.aa_profile_access.specs.Access.{bit_of}
-use Rattle.aa_profile_tables.specs.Capabilities.{capability_number}
+use Rattle.aa_profile_data.specs.Access.{bit_of}
+use Rattle.aa_profile_data.specs.Capabilities.{capability_number}
 use Rattle.aa_set_commands.specs.Question.{Question, file_question, owned_of, question_of}
 use Rattle.aa_set_commands.specs.Refusal.{plain}
 use Rattle.aa_set_commands.specs.declared.refusal.Refusal.{Refusal}
 use Rattle.aa_set_commands.specs.declared.refusal.RefusalKind.TheVariants.{BadCommand}
-use Rattle.aatry_kernel_words.specs.Capabilities.{capability_meant}
-use Rattle.aatry_kernel_words.specs.Masks.{asked_letter, is_mask, needs_meant}
+use Rattle.aatry_words.specs.Capabilities.{capability_meant}
+use Rattle.aatry_words.specs.Masks.{asked_letter, is_mask, needs_meant}
 use Rattle.aatry_questions.specs.Faults.{Found, access_fault, found, of_one, of_three, question_fault}
 use Rattle.aatry_questions.specs.declared.faults.Wrong.TheVariants.{Letter}
 

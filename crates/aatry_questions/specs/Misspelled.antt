@@ -1,10 +1,10 @@
 -- Words that are wrong, with the known one that may have been meant.
 use Rattle.std.specs.Prelude.{◌≡◌, ◌&&◌, List, ℕ, [], ◌∷◌, Bool, codes, is_none, is_some, take, option_map}
-use Rattle.aa_profile_tables.specs.Capabilities.{names as capability_names}
-use Rattle.aa_profile_tables.specs.Domains.{names as domain_names}
-use Rattle.aa_profile_tables.specs.Kinds.{names as kind_names}
-use Rattle.aatry_kernel_words.specs.Capabilities.{likely_name}
-use Rattle.aatry_near.specs.Near.{IsNearest, nearest}
+use Rattle.aa_profile_data.specs.Capabilities.{names as capability_names}
+use Rattle.aa_profile_data.specs.Domains.{names as domain_names}
+use Rattle.aa_profile_data.specs.Kinds.{names as kind_names}
+use Rattle.aatry_words.specs.Capabilities.{likely_name}
+use Rattle.aatry_words.specs.Near.{IsNearest, nearest}
 use Rattle.aatry_questions.specs.Faults.{Found, kind_of}
 use Rattle.aatry_questions.specs.Meant.{needs_fault}
 use Rattle.aatry_questions.specs.declared.faults.Wrong.{Wrong}

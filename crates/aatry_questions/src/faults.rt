@@ -6,8 +6,7 @@ ghost use Rattle.aa_set_commands.specs.Refusal.{plain};
 ghost use Rattle.aatry_questions.specs.Faults.{access_fault, exec_fault, first_fault, kind_fault, kind_of, letters_fault};
 ghost use Rattle.aatry_questions.specs.Faults.{of_one, of_three, of_two, question_fault, refusal_of, seen_fault, socket_fault, unless};
 
-use aa_profile_access::Perms;
-use aa_profile_tables::{capability_number, domain_number};
+use aa_profile_data::{Perms, capability_number, domain_number};
 use aa_set_commands::{Refusal, RefusalKind, is_path, plain, type_number};
 use bitflags::Flags;
 

@@ -8,7 +8,7 @@ ghost use Rattle.aatry_questions.specs.Faults.{Agree, question_fault};
 ghost use Rattle.aatry_questions.specs.Meant.{meant_fault, question_meant};
 ghost use Rattle.aatry_questions.specs.Names.{escaped, is_backslash, unescaped};
 
-use aatry_kernel_words::{what_letters_mean, what_names_mean};
+use aatry_words::{what_letters_mean, what_names_mean};
 
 /// Something is found to be wrong with words exactly where they ask no question, or mean none, and a command with them is refused as what is wrong says:
 /// by 65 where it is their kind or their number, and else by 67.

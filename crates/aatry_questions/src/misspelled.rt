@@ -2,16 +2,15 @@
 
 ghost use Rattle.std.specs.Prelude.{◌≡◌, ◌++◌, IfOk, OnOk, map, option_map};
 ghost use Rattle.std.specs.Option.{option_to_list};
-ghost use Rattle.aa_profile_tables.specs.Domains.{names as domain_names};
+ghost use Rattle.aa_profile_data.specs.Domains.{names as domain_names};
 ghost use Rattle.aatry_questions.specs.Faults.{seen_fault};
 ghost use Rattle.aatry_questions.specs.Misspelled.{Tells, known_words, likely_word, misspells_kind};
 
 use crate::faults::{WordFault, Wrong, kind_of};
 use crate::reading::needs_fault;
 use aa_bytes::Sequence;
-use aa_profile_tables::{CAPABILITIES, domain_name, which_names_tables_hold};
-use aatry_kernel_words::likely_name;
-use aatry_near::nearest_text;
+use aa_profile_data::{CAPABILITIES, domain_name, which_names_tables_hold};
+use aatry_words::{likely_name, nearest_text};
 use std::alloc::{AllocError, Global};
 
 // The kinds of questions.
@@ -85,7 +84,7 @@ fn likely_word(alloc: Global, wrong: Wrong, word: &[u8]) -> Result<Vec<u8>, Allo
 }
 
 /// A fault with the known word that is nearest to the wrong one, if one is near: of several the first in the order of their table. That of a capability
-/// is compared as the kernel's and its tools' names are meant (`aatry_kernel_words::likely_name`).
+/// is compared as the kernel's and its tools' names are meant (`aatry_words::likely_name`).
 ///
 /// # Errors
 ///
@@ -103,7 +102,7 @@ pub fn with_nearest(alloc: Global, fault: WordFault<'_>) -> Result<QuestionFault
     })
 }
 
-/// Whether a word may be meant for a kind of questions, where it is none: it is near one (`aatry_near::nearest`), and no access that a question for a file
+/// Whether a word may be meant for a kind of questions, where it is none: it is near one (`aatry_words::nearest`), and no access that a question for a file
 /// may have (`meant_fault`).
 ///
 /// # Errors

@@ -3,17 +3,17 @@
 ghost use Rattle.std.specs.Prelude.{◌≡◌, [], ◌∷◌, IfErr, IfOk, Err, Ok, Some, map, option_map};
 ghost use Rattle.aa_set_commands.specs.Question.{IsWellFormed, file_question, owned_of, question_of, seen_question};
 ghost use Rattle.aa_set_commands.specs.Refusal.{plain};
-ghost use Rattle.aa_profile_tables.specs.Capabilities.{capability_number};
-ghost use Rattle.aatry_kernel_words.specs.Capabilities.{capability_meant};
-ghost use Rattle.aatry_kernel_words.specs.Masks.{needs_meant};
+ghost use Rattle.aa_profile_data.specs.Capabilities.{capability_number};
+ghost use Rattle.aatry_words.specs.Capabilities.{capability_meant};
+ghost use Rattle.aatry_words.specs.Masks.{needs_meant};
 ghost use Rattle.aatry_questions.specs.Faults.{of_one, refusal_of, seen_fault};
 ghost use Rattle.aatry_questions.specs.Meant.{file_meant, mask_fault, meant_fault, needs_fault, question_meant};
 
 use crate::faults::{WordFault, Wrong, access_fault, of_one, of_three, owned_of, question_fault};
 use crate::laws::how_wrong_words_are_refused;
-use aa_profile_tables::capability_number;
+use aa_profile_data::capability_number;
 use aa_set_commands::{Question, Refusal, RefusalKind, is_path, plain};
-use aatry_kernel_words::{capability_meant, is_mask, need_of, needs_meant};
+use aatry_words::{capability_meant, is_mask, need_of, needs_meant};
 
 // The question for a file, of the words behind `file`.
 fn file_question<'a>(
@@ -72,7 +72,7 @@ fn of_name<'a>(kind: &'a [u8], who: &'a [u8], name: &'a [u8]) -> Result<Question
 }
 
 /// The question that words mean: as those behind `ask` do (`aa_set_commands::Question::read`), but that the name of a capability may be written as the
-/// kernel and its tools write it (`aatry_kernel_words::capability_meant`), and the access as a mask (`aatry_kernel_words::needs_meant`). It takes no
+/// kernel and its tools write it (`aatry_words::capability_meant`), and the access as a mask (`aatry_words::needs_meant`). It takes no
 /// memory.
 ///
 /// # Errors

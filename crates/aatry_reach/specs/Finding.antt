@@ -3,8 +3,8 @@ use Rattle.std.specs.Prelude.{◌≡◌, ℕ, ◌<◌, ◌^◌, ◌-◌, Bool, t
 use Rattle.std.specs.List.{All, list_any}
 use Rattle.aa_bytes.specs.Texts.{is_empty}
 use Rattle.aa_decide.specs.Exec.{Asker}
-use Rattle.aa_decide_slots.specs.Entries.{Loaded}
-use Rattle.aa_decide_slots.specs.Slots.{filled}
+use Rattle.aa_decide_ready.specs.Entries.{Loaded}
+use Rattle.aa_decide_ready.specs.Slots.{filled}
 use Rattle.aa_explain_reach.specs.Reach.{AreReached}
 use Rattle.aa_explain_reach.specs.declared.reach.Reach.{Reach}
 use Rattle.aa_set_answers.specs.Askers.{asker}

@@ -1,7 +1,7 @@
 -- What is told of the places that are reached as a graph, in the language of graphviz.
 use Rattle.std.specs.Prelude.{ℕ, ◌==◌, ◌||◌, if◌then◌else◌, List, [], ◌∷◌, ◌++◌, codes, flat_map, Option}
 use Rattle.aa_bytes.specs.Bytes.{line_feed}
-use Rattle.aa_decide_slots.specs.Entries.{Loaded}
+use Rattle.aa_decide_ready.specs.Entries.{Loaded}
 use Rattle.aa_explain_reach.specs.declared.reach.Reach.{Reach}
 use Rattle.aa_explain_reach.specs.declared.reached.Reached.{Reached as Node}
 use Rattle.aatry_reach.specs.Finding.{Found}

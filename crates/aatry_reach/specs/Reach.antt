@@ -1,12 +1,12 @@
 -- Under which profiles programs may run that are started by those whom words name, by the policy of a folder.
 use Rattle.std.specs.Prelude.{◌≡◌, ℕ, Bool, true, false, not, List, ◌++◌, Option}
-use Rattle.aa_decide_slots.specs.Entries.{Loaded}
-use Rattle.aa_decide_slots.specs.Slots.{filled}
+use Rattle.aa_decide_ready.specs.Entries.{Loaded}
+use Rattle.aa_decide_ready.specs.Slots.{filled}
 use Rattle.aa_profile_parsing.specs.declared.language.Language.{Language}
 use Rattle.aa_text_files.specs.Files.{File}
-use Rattle.aaset_start.specs.Gathering.{names_of}
-use Rattle.aaset_start.specs.Known.{Known}
-use Rattle.aaset_start.specs.declared.readable.UnreadFault.{UnreadFault}
+use Rattle.aa_start.specs.Gathering.{names_of}
+use Rattle.aa_start.specs.Known.{Known}
+use Rattle.aa_start.specs.declared.readable.UnreadFault.{UnreadFault}
 use Rattle.aatry_arguments.specs.ReachWords.{ReachAsked}
 use Rattle.aatry_folder.specs.Loadings.{AreTop, TopFile}
 use Rattle.aatry_folder.specs.PolicyFolders.{AreBelow, tried_names}
@@ -14,7 +14,7 @@ use Rattle.aatry_folder.specs.Reports.{failed_by}
 use Rattle.aatry_folder.specs.Told.{ToldFolders}
 use Rattle.aatry_folder.specs.Unread.{IsOfFolder}
 use Rattle.aatry_folder.specs.declared.fault.Fault.{Fault}
-use Rattle.aatry_never.specs.Never.{PathsReport}
+use Rattle.aatry_claims.specs.Never.{PathsReport}
 use Rattle.aatry_policy.specs.Folders.{Folder, folder_at, left_out_in, left_out_note, policy_in}
 use Rattle.aatry_reach.specs.Finding.{AreFound, Found, has_absent, has_undecided}
 use Rattle.aatry_reach.specs.Graph.{graph}

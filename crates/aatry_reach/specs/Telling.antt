@@ -5,8 +5,8 @@ use Rattle.aa_bytes.specs.Bytes.{line_feed}
 use Rattle.std.specs.Fmt.{decimal}
 use Rattle.aa_decide.specs.Exec.{Null, Nowhere, Stacked, Started, Unconfined, Under}
 use Rattle.aa_decide.specs.SeenExec.{seen_to}
-use Rattle.aa_decide_audit.specs.declared.exec_verdict.ExecTo.{ExecTo}
-use Rattle.aa_decide_slots.specs.Entries.{Loaded}
+use Rattle.aa_decide_rules.specs.declared.exec_verdict.ExecTo.{ExecTo}
+use Rattle.aa_decide_ready.specs.Entries.{Loaded}
 use Rattle.aa_explain_reach.specs.declared.reach.Reach.{Reach}
 use Rattle.aa_explain_reach.specs.declared.reached.Reached.{Reached as Node}
 use Rattle.aatry_changes.specs.Changes.{headed_record}

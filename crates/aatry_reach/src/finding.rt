@@ -2,7 +2,7 @@
 
 ghost use Rattle.std.specs.Prelude.{◌≡◌, ◌++◌, ◌∷◌, [], IfOk, OnOk, map};
 ghost use Rattle.std.specs.List.{All};
-ghost use Rattle.aa_decide_slots.specs.Slots.{filled};
+ghost use Rattle.aa_decide_ready.specs.Slots.{filled};
 ghost use Rattle.aa_set_answers.specs.Askers.{asker};
 ghost use Rattle.aatry_reach.specs.Finding.{AreFound, IsFindingOf, IsFound, found_names, has_absent, has_undecided, is_absent, is_undecided, seen_found};
 

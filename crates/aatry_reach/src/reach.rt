@@ -2,7 +2,7 @@
 
 ghost use Rattle.std.specs.Prelude.{◌≡◌, ◌++◌, IfErr, IfOk, OnOk, map, string_bytes};
 ghost use Rattle.aatry_arguments.specs.Given.{meant_reach};
-ghost use Rattle.aatry_never.specs.Never.{seen_paths_report};
+ghost use Rattle.aatry_claims.specs.Never.{seen_paths_report};
 ghost use Rattle.aatry_policy.specs.Folders.{loaded_in, policy_in, seen_folder};
 ghost use Rattle.aatry_reach.specs.Finding.{seen_found};
 ghost use Rattle.aatry_reach.specs.Reach.{IsEndOfReach, IsFoundTold, IsReachIn, IsReachTold, reach_text};
@@ -12,10 +12,10 @@ use crate::graph::push_graph;
 use crate::telling::push_all;
 use aa_decide::IndexedSlots;
 use aa_profile_parsing::Language;
-use aaset_start::FileSystem;
+use aa_start::FileSystem;
 use aatry_arguments::{Asking, Reach};
+use aatry_claims::PathsReport;
 use aatry_folder::{Fault, Folders, PolicyFolder, Report, failed_by, policy_below};
-use aatry_never::PathsReport;
 use aatry_policy::{LoadedFolder, load_folder};
 use aatry_report::{Form, Teller};
 use std::alloc::{AllocError, Global};

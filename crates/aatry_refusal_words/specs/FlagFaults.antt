@@ -3,10 +3,10 @@ use Rattle.std.specs.Prelude.{ℕ, Bool, not, ◌==◌, ◌&&◌, codes, drop, f
 use Rattle.std.specs.List.{prefix_len, slice_split}
 use Rattle.aa_bytes.specs.Bytes.{closing_parenthesis, opening_parenthesis}
 use Rattle.aa_bytes.specs.Texts.{has_byte, is_empty}
-use Rattle.aa_profile_flags.specs.Flags.{flags, separates}
-use Rattle.aa_profile_flags.specs.IdleFlags.{up_to_parenthesis}
+use Rattle.aa_profile_parsing.specs.Flags.{flags, separates}
+use Rattle.aa_profile_parsing.specs.IdleFlags.{up_to_parenthesis}
 use Rattle.aa_profile_parsing.specs.declared.language.Language.{Language}
-use Rattle.aa_text_splicing.specs.Splicing.{Placed}
+use Rattle.aa_text_tokens.specs.Splicing.{Placed}
 use Rattle.aa_text_tokens.specs.declared.cut.TokenKind.{TokenKind}
 use Rattle.aa_text_tokens.specs.declared.cut.TokenKind.TheVariants.{OpenBrace, Word}
 

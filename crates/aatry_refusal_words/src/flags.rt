@@ -3,17 +3,15 @@
 ghost use Rattle.std.specs.Prelude.{◌≡◌, ◌<◌, ◌≤◌, ◌∷◌, not, IfOk, IfSome, length};
 ghost use Rattle.std.specs.List.{prefix_len, slice_split};
 ghost use Rattle.std.specs.Option.{option_map};
-ghost use Rattle.aa_profile_flags.specs.Flags.{separates};
-ghost use Rattle.aa_profile_flags.specs.FlagText.{words_of_rest};
+ghost use Rattle.aa_profile_parsing.specs.Flags.{separates};
+ghost use Rattle.aa_profile_parsing.specs.FlagText.{words_of_rest};
 ghost use Rattle.aa_profile_parsing.specs.SeenTokens.{seen_tokens};
-ghost use Rattle.aa_text_splicing.specs.SeenTokens.{seen_spliced};
+ghost use Rattle.aa_text_tokens.specs.SeenSplicedTokens.{seen_spliced};
 ghost use Rattle.aatry_refusal_words.specs.FlagFaults.{are_read, first_unknown, flag_list, is_flag, is_unknown, list_of, token_of, unknown_flag, behind_parenthesis};
 
 use aa_bytes::{behind, has_byte, length_while};
-use aa_profile_flags::read_flags;
-use aa_profile_parsing::Language;
-use aa_text_splicing::Spliced;
-use aa_text_tokens::{Token, TokenKind};
+use aa_profile_parsing::{Language, read_flags};
+use aa_text_tokens::{Spliced, Token, TokenKind};
 use std::alloc::{AllocError, Global};
 
 // What stands behind the first `(` of a text, or all of one that has none.

@@ -7,8 +7,7 @@ ghost use Rattle.aatry_refusal_words.specs.Naming.{flag_words, flag_words_at, in
 use crate::flags::unknown_flag;
 use crate::tokens::text_at;
 use aa_bytes::begins_with_byte;
-use aa_profile_errors::ProfileRefusal;
-use aa_profile_parsing::{GrammarRefusal, Language};
+use aa_profile_parsing::{GrammarRefusal, Language, ProfileRefusal};
 use aa_text_files::{Files, Place, TextRefusal};
 use aatry_report::push_shown;
 use std::alloc::{AllocError, Global};

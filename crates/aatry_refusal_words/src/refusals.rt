@@ -4,8 +4,7 @@ ghost use Rattle.std.specs.Prelude.{◌≡◌, IfOk, string_bytes};
 ghost use Rattle.aatry_refusal_words.specs.Refusals.{kind_words, refusal_words};
 
 use crate::words::words_of;
-use aa_profile_errors::ProfileError;
-use aa_profile_parsing::Language;
+use aa_profile_parsing::{Language, ProfileError};
 use aa_set_commands::{Refusal, RefusalKind};
 use aa_text_files::Files;
 use std::alloc::{AllocError, Global};

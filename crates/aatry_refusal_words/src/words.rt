@@ -5,8 +5,7 @@ ghost use Rattle.std.specs.Option.{option_map};
 ghost use Rattle.aatry_refusal_words.specs.Naming.{naming_words_of, words_at};
 
 use crate::naming::naming_words;
-use aa_profile_errors::{ProfileError, ProfileRefusal};
-use aa_profile_parsing::Language;
+use aa_profile_parsing::{Language, ProfileError, ProfileRefusal};
 use aa_text_files::{Files, Place};
 use std::alloc::{AllocError, Global};
 

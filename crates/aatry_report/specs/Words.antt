@@ -1,8 +1,8 @@
 -- What is wrong with a file of policy, in words.
 use Rattle.std.specs.Prelude.{ℕ, List, codes}
 use Rattle.aa_glob_syntax.specs.PatternError as pattern
-use Rattle.aa_profile_errors.specs.declared.profile_error.ProfileRefusal.{ProfileRefusal}
-use Rattle.aa_profile_errors.specs.declared.profile_error.ProfileRefusal.TheVariants as refusal
+use Rattle.aa_profile_parsing.specs.declared.profile_error.ProfileRefusal.{ProfileRefusal}
+use Rattle.aa_profile_parsing.specs.declared.profile_error.ProfileRefusal.TheVariants as refusal
 use Rattle.aa_profile_parsing.specs.declared.fault.GrammarRefusal.{GrammarRefusal}
 use Rattle.aa_profile_parsing.specs.declared.fault.GrammarRefusal.TheVariants as grammar
 use Rattle.aa_text_files.specs.TextError as text

@@ -3,8 +3,7 @@
 ghost use Rattle.std.specs.Prelude.{◌≡◌};
 ghost use Rattle.aatry_report.specs.Words.{words_of, words_of_grammar};
 
-use aa_profile_errors::ProfileRefusal;
-use aa_profile_parsing::GrammarRefusal;
+use aa_profile_parsing::{GrammarRefusal, ProfileRefusal};
 
 // What is wrong with a file's grammar, in words.
 fn words_of_grammar(refusal: GrammarRefusal) -> &'static str

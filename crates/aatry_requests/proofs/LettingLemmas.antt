@@ -5,15 +5,15 @@ use Rattle.std.specs.Result.{result_ok}
 use Rattle.std.specs.Str.{bytes_eq, chars}
 use Rattle.std.proofs.lemmas.Bool.{and_parts}
 use Rattle.std.proofs.lemmas.Slice.Eq.{bytes_eq-Decides}
-use Rattle.aa_profile_tables.specs.Capabilities.{capability_number}
-use Rattle.aa_profile_tables.specs.Domains.{domain_number}
+use Rattle.aa_profile_data.specs.Capabilities.{capability_number}
+use Rattle.aa_profile_data.specs.Domains.{domain_number}
 use Rattle.aa_set_commands.specs.Question.{OfExec, OfAccess, Question, capability_question, exec_question, file_question, is_path, owned_of, socket_question, type_number}
-use Rattle.aa_profile_access.specs.Request.{ForFile}
+use Rattle.aa_profile_data.specs.Request.{ForFile}
 use Rattle.aa_set_commands.specs.Refusal.{plain}
 use Rattle.aa_set_commands.specs.declared.refusal.Refusal.{Refusal}
 use Rattle.aa_set_commands.specs.declared.refusal.RefusalKind.TheVariants.{BadCommand, BadRequest}
-use Rattle.aatry_kernel_words.specs.Capabilities.{capability_meant}
-use Rattle.aatry_kernel_words.specs.Masks.{needs_meant}
+use Rattle.aatry_words.specs.Capabilities.{capability_meant}
+use Rattle.aatry_words.specs.Masks.{needs_meant}
 use Rattle.aatry_questions.specs.Faults.{Agree, Found, first_fault, found, kind_of}
 use Rattle.aatry_questions.specs.Meant.{meant_fault, needs_fault, question_meant}
 use Rattle.aatry_questions.specs.Misspelled.{is_near_kind, misspells_kind}

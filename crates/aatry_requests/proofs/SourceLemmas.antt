@@ -1,7 +1,7 @@
 -- Lines of a file of questions that have no words that could be cut.
 use Rattle.std.proofs.Common.{◌≡◌, ℕ, ◌<◌, List, [], ◌∷◌, length, map, refl, sym, arith, Option, None, Some}
 use Rattle.std.specs.Prelude.{IfSome}
-use Rattle.aa_set_lines.specs.Limits.{most_words}
+use Rattle.aa_set_commands.specs.Limits.{most_words}
 use Rattle.aatry_log_lines.specs.Lines.{Unreadable}
 use Rattle.aatry_questions.specs.Names.{unescaped}
 use Rattle.aatry_requests.specs.Sources.{told_by_words, told_meant}

@@ -11,12 +11,12 @@ use Rattle.std.proofs.lemmas.Slice.Eq.{bytes_eq-Decides}
 use Rattle.hex.specs.Hex.{IsBytes, encode_with, hex_digit_value, upper_digits}
 use Rattle.hex.proofs.HexLemmas.{IsDigits-upper_digits}
 use Rattle.aa_bytes.specs.Bytes.{quote, space}
-use Rattle.aa_profile_access.specs.Access.{asked_letters, letters_of, letters_onto}
-use Rattle.aa_profile_access.specs.Request.{ForCapability, ForFile, ForSockets}
-use Rattle.aa_profile_tables.specs.Capabilities.{capability_name, capability_number}
-use Rattle.aa_profile_tables.specs.Domains.{domain_name, domain_number}
-use Rattle.aa_profile_tables.specs.Kinds.{kind_name, kind_number}
-use Rattle.aa_profile_tables.specs.Names.{name_or_none}
+use Rattle.aa_profile_data.specs.Access.{asked_letters, letters_of, letters_onto}
+use Rattle.aa_profile_data.specs.Request.{ForCapability, ForFile, ForSockets}
+use Rattle.aa_profile_data.specs.Capabilities.{capability_name, capability_number}
+use Rattle.aa_profile_data.specs.Domains.{domain_name, domain_number}
+use Rattle.aa_profile_data.specs.Kinds.{kind_name, kind_number}
+use Rattle.aa_profile_data.specs.TableNames.{name_or_none}
 use Rattle.aa_bytes.specs.Quoting.{digits_of, is_shown}
 use Rattle.aa_set_commands.specs.Question.{OfAccess, OfExec, Question, owned_of}
 use Rattle.aatry_requests.specs.Laws.{CanBeAsked}

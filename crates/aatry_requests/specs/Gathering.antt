@@ -1,6 +1,6 @@
 -- What is gathered from a source's lines.
 use Rattle.std.specs.Prelude.{ℕ, List, [], Option, None, fold}
-use Rattle.aa_set_lines.specs.Lines.{lines}
+use Rattle.aa_set_commands.specs.Lines.{lines}
 use Rattle.aatry_log_lines.specs.Lines.{Asks, Disconnected, Interpreted, Learning, NoRequest, OtherRequest, Told, Unreadable}
 use Rattle.aatry_requests.specs.Sources.{told_in}
 use Rattle.aatry_requests.specs.Tallies.{Tally, counted_with, one_more}

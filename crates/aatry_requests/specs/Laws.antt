@@ -1,8 +1,8 @@
 -- What the laws ask of questions and of requests.
 use Rattle.std.specs.Prelude.{◌<◌}
 use Rattle.hex.specs.Hex.{IsBytes}
-use Rattle.aa_profile_access.specs.Access.{asked_letters}
-use Rattle.aa_profile_access.specs.Request.{ForCapability, ForFile, ForSockets, Request}
+use Rattle.aa_profile_data.specs.Access.{asked_letters}
+use Rattle.aa_profile_data.specs.Request.{ForCapability, ForFile, ForSockets, Request}
 use Rattle.aa_set_commands.specs.Question.{OfAccess, OfExec, Question}
 
 -- what is asked for needs letters alone that may be asked for, its numbers stand in the tables, and its path is bytes

@@ -1,7 +1,7 @@
 -- Questions by what they ask of rules.
 use Rattle.std.specs.Prelude.{ℕ, List}
-use Rattle.aa_profile_access.specs.Access.{EXEC}
-use Rattle.aa_profile_access.specs.Request.{ForFile, Request}
+use Rattle.aa_profile_data.specs.Access.{EXEC}
+use Rattle.aa_profile_data.specs.Request.{ForFile, Request}
 use Rattle.aa_set_commands.specs.Question.{OfAccess, OfExec, Question}
 
 -- what a question asks of rules: of the start of a program, whether it may be started at all

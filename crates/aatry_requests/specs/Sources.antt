@@ -2,8 +2,8 @@
 use Rattle.std.specs.Prelude.{ℕ, nat_lt, if◌then◌else◌, List, [], ◌∷◌, Option, None, Some, Result, Ok, Err, length, map}
 use Rattle.aa_set_commands.specs.Question.{Question}
 use Rattle.aa_set_commands.specs.declared.refusal.Refusal.{Refusal}
-use Rattle.aa_set_lines.specs.Limits.{longest_line}
-use Rattle.aa_set_lines.specs.Words.{words_of}
+use Rattle.aa_set_commands.specs.Limits.{longest_line}
+use Rattle.aa_set_commands.specs.Words.{words_of}
 use Rattle.aatry_log_lines.specs.Lines.{Asks, NoRequest, Told, Unreadable, told_by}
 use Rattle.aatry_questions.specs.Meant.{question_meant}
 use Rattle.aatry_questions.specs.Names.{unescaped}

@@ -2,12 +2,12 @@
 -- bytes that isn't shown as it is as `\x` and its digits. So a file of questions may have them.
 use Rattle.std.specs.Prelude.{ℕ, Bool, if◌then◌else◌, List, ◌++◌, codes}
 use Rattle.std.specs.Str.{bytes_eq}
-use Rattle.aa_profile_access.specs.Access.{letters_of}
-use Rattle.aa_profile_access.specs.Request.{ForCapability, ForFile, ForSockets, Request}
-use Rattle.aa_profile_tables.specs.Capabilities.{capability_name}
-use Rattle.aa_profile_tables.specs.Domains.{domain_name}
-use Rattle.aa_profile_tables.specs.Kinds.{kind_name}
-use Rattle.aa_profile_tables.specs.Names.{name_or_none}
+use Rattle.aa_profile_data.specs.Access.{letters_of}
+use Rattle.aa_profile_data.specs.Request.{ForCapability, ForFile, ForSockets, Request}
+use Rattle.aa_profile_data.specs.Capabilities.{capability_name}
+use Rattle.aa_profile_data.specs.Domains.{domain_name}
+use Rattle.aa_profile_data.specs.Kinds.{kind_name}
+use Rattle.aa_profile_data.specs.TableNames.{name_or_none}
 use Rattle.aa_set_commands.specs.Question.{OfAccess, OfExec, Question}
 use Rattle.aatry_questions.specs.Names.{name_text}
 

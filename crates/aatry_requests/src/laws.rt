@@ -2,7 +2,7 @@
 
 ghost use Rattle.std.specs.Prelude.{◌≡◌, ◌∷◌, [], ℕ, IsSome, List, Ok, Some, codes, true};
 ghost use Rattle.aa_set_commands.specs.Question.{Question};
-ghost use Rattle.aatry_kernel_words.specs.Masks.{needs_meant};
+ghost use Rattle.aatry_words.specs.Masks.{needs_meant};
 ghost use Rattle.aatry_questions.specs.Faults.{kind_of};
 ghost use Rattle.aatry_questions.specs.Meant.{question_meant};
 ghost use Rattle.aatry_requests.specs.AskedWords.{asking_words, letting_question};

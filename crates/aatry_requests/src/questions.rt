@@ -1,12 +1,12 @@
 //! Questions by who asks, and by what they ask of rules.
 
 ghost use Rattle.std.specs.Prelude.{◌≡◌};
-ghost use Rattle.aa_profile_access.specs.SeenRequests.{request_of};
+ghost use Rattle.aa_profile_data.specs.SeenRequests.{request_of};
 ghost use Rattle.aa_set_answers.specs.Answers.{who_asks};
 ghost use Rattle.aa_set_commands.specs.Question.{seen_question};
 ghost use Rattle.aatry_requests.specs.Questions.{rule_request};
 
-use aa_profile_access::{Perms, Request};
+use aa_profile_data::{Perms, Request};
 use aa_set_commands::Question;
 
 /// What a question asks of rules: of the start of a program, whether it may be started at all.

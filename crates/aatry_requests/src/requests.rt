@@ -2,14 +2,14 @@
 
 ghost use Rattle.std.specs.Prelude.{◌≡◌, false, IfOk, OnOk};
 ghost use Rattle.std.specs.List.{list_any};
-ghost use Rattle.aa_set_lines.specs.Lines.{is_line_feed, lines};
+ghost use Rattle.aa_set_commands.specs.Lines.{is_line_feed, lines};
 ghost use Rattle.aatry_requests.specs.Gathering.{gathered, nothing, seen_requests, with_lines, with_told, with_told_at};
 ghost use Rattle.aatry_log_lines.specs.Lines.{seen_line};
 ghost use Rattle.aatry_requests.specs.Sources.{told_in};
 
 use crate::sources::{Source, told_in};
 use crate::tallies::Tallies;
-use aa_set_lines::first_line;
+use aa_set_commands::first_line;
 use aatry_log_lines::LogLine;
 use std::alloc::{AllocError, Global};
 

@@ -2,12 +2,12 @@
 
 ghost use Rattle.std.specs.Prelude.{◌≡◌, ◌++◌, ◌∷◌, [], IfOk, OnOk, Some, map};
 ghost use Rattle.std.specs.List.{list_any};
-ghost use Rattle.aa_set_lines.specs.Words.{words_of};
+ghost use Rattle.aa_set_commands.specs.Words.{words_of};
 ghost use Rattle.aatry_log_lines.specs.Lines.{seen_line};
 ghost use Rattle.aatry_questions.specs.Names.{is_backslash, unescaped};
 ghost use Rattle.aatry_requests.specs.Sources.{told_by_words, told_in, told_in_log, told_meant};
 
-use aa_set_lines::{LONGEST_LINE, Words};
+use aa_set_commands::{LONGEST_LINE, Words};
 use aatry_log_lines::{LogLine, LoggedQuestion, told_by};
 use aatry_questions::{has_backslash, how_names_read_back, question_meant, unescaped};
 use std::alloc::{AllocError, Global};

@@ -1,14 +1,13 @@
 //! How questions are told.
 
 ghost use Rattle.std.specs.Prelude.{◌≡◌, ◌++◌, OnOk, codes, option_map};
-ghost use Rattle.aa_profile_access.specs.Access.{letters_of};
-ghost use Rattle.aa_profile_tables.specs.Names.{name_or_none};
+ghost use Rattle.aa_profile_data.specs.Access.{letters_of};
+ghost use Rattle.aa_profile_data.specs.TableNames.{name_or_none};
 ghost use Rattle.aa_set_commands.specs.Question.{seen_question};
 ghost use Rattle.aatry_questions.specs.Names.{name_text};
 ghost use Rattle.aatry_requests.specs.Texts.{owned_text, question_text};
 
-use aa_profile_access::Perms;
-use aa_profile_tables::{capability_name, domain_name, kind_name};
+use aa_profile_data::{Perms, capability_name, domain_name, kind_name};
 use aa_set_commands::Question;
 use aatry_questions::push_name as push_quoted_name;
 use std::alloc::AllocError;

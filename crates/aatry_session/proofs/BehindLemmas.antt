@@ -7,7 +7,7 @@ use Rattle.std.specs.Str.{bytes_eq}
 use Rattle.std.proofs.lemmas.Bool.{le-leb, ltb-false}
 use Rattle.std.proofs.lemmas.List.{take-append-drop, take-append-le}
 use Rattle.std.proofs.Math.Seq.{take-append-add}
-use Rattle.aa_decide_slots.specs.Entries.{Loaded}
+use Rattle.aa_decide_ready.specs.Entries.{Loaded}
 use Rattle.aa_history.specs.Machine.{Machine, MarksItsSets, accepted, all_sets, can_go_back, can_go_on, gone_back, gone_on, gone_to_mark, marked, with_number}
 use Rattle.aa_history.specs.MachineLaws.{BackKeepsSets, BackToSameSets, LengthsAfterBack, LengthsAfterOn, OnKeepsSets}
 use Rattle.aa_history.specs.MarkLaws.{MarkIsReached, MarkKeepsAll}
@@ -15,12 +15,12 @@ use Rattle.aa_set_manager.specs.Outcomes.{Outcome, answered, changed, command_in
 use Rattle.aa_set_manager.specs.Manager.{Managed, after_change, back_at, is_mark_name, marking, redone, undone}
 use Rattle.aa_set_answers.specs.Answers.{reply_lines, shown}
 use Rattle.aa_set_answers.specs.List.{list_lines}
-use Rattle.aa_set_changes.specs.Changes.{changed as change_of_set, parts_of}
+use Rattle.aa_set_manager.specs.Changes.{changed as change_of_set, parts_of}
 use Rattle.aa_set_commands.specs.Command.{Add, Ask, Back, Command as Order, Complain, Disable as DisableChange, Listed, Make, Mark, PolicyChange, Redo, Show, Undo}
 use Rattle.aa_set_commands.specs.Refusal.{plain}
 use Rattle.aa_set_commands.specs.declared.refusal.Refusal.{Refusal}
 use Rattle.aa_set_commands.specs.declared.refusal.RefusalKind.TheVariants.{BadRequest, LineTooLong, Memory, NoMark, NothingToRedo, NothingToUndo}
-use Rattle.aa_set_lines.specs.Limits.{longest_line}
+use Rattle.aa_set_commands.specs.Limits.{longest_line}
 use Rattle.aa_text_files.specs.Files.{File}
 use Rattle.aatry_folder.specs.declared.loading.Loading.TheVariants as loading
 use Rattle.aatry_session.specs.Laws.{IsInStep}

@@ -11,8 +11,8 @@ use Rattle.std.proofs.lemmas.Slice.Eq.{bytes_eq-Decides}
 use Rattle.std.specs.List.{list_any}
 use Rattle.std.specs.Option.{option_or}
 use Rattle.std.specs.Str.{bytes_eq}
-use Rattle.aa_decide_slots.specs.Entries.{Loaded, is_in_force}
-use Rattle.aa_decide_slots.specs.Named.{entry_named, is_named}
+use Rattle.aa_decide_ready.specs.Entries.{Loaded, is_in_force}
+use Rattle.aa_decide_ready.specs.Named.{entry_named, is_named}
 use Rattle.aa_history.specs.Machine.{Machine, MarksItsSets, accepted, all_sets, can_go_back, can_go_on, gone_back, gone_on, gone_to_mark, is_marked, with_mark}
 use Rattle.aa_history.specs.MachineLaws.{BackKeepsSets, OnKeepsSets}
 use Rattle.aa_history.specs.MarkLaws.{MarkKeepsAll}
@@ -21,19 +21,19 @@ use Rattle.aa_profile_data.specs.Profile.{are_distinct, is_named as is_profile_n
 use Rattle.aa_profile_data.specs.declared.profile.Mode.{Mode}
 use Rattle.aa_profile_data.specs.declared.profile.Mode.TheVariants.{Complain as ComplainMode, Enforce as EnforceMode}
 use Rattle.aa_profile_data.specs.declared.profile.Profile.{Profile}
-use Rattle.aa_profile_errors.specs.declared.profile_error.ProfileError.{ProfileError}
+use Rattle.aa_profile_parsing.specs.declared.profile_error.ProfileError.{ProfileError}
 use Rattle.aa_profile_parsing.specs.declared.language.Language.{Language}
-use Rattle.aa_profile_patterns.specs.declared.places.ProfilePlaces.{ProfilePlaces}
+use Rattle.aa_profile_grammar.specs.declared.places.ProfilePlaces.{ProfilePlaces}
 use Rattle.aa_set_manager.specs.Outcomes.{Outcome, answered, changed as changed_outcome, command_in, command_outcome, line_outcome, obeyed, refused, takes_memory}
 use Rattle.aa_set_manager.specs.Manager.{after_change, back_at, is_mark_name, marking, redone, undone}
 use Rattle.aa_set_answers.specs.Answers.{reply_lines, shown}
 use Rattle.aa_set_answers.specs.List.{list_lines}
-use Rattle.aa_set_changes.specs.Changes.{are_there, by_file, changed, disabled, forced, in_force, loaded, parts_of, put, put_all, some_are_absent, some_are_disabled, with_added, with_removed, with_replaced, without}
+use Rattle.aa_set_manager.specs.Changes.{are_there, by_file, changed, disabled, forced, in_force, loaded, parts_of, put, put_all, some_are_absent, some_are_disabled, with_added, with_removed, with_replaced, without}
 use Rattle.aa_set_commands.specs.Command.{Add, Ask, Back, Command as Order, Complain, Disable, Enforce, Listed, Make, Mark, PolicyChange, Redo, Remove, Replace, Show, Undo}
 use Rattle.aa_set_commands.specs.Refusal.{plain}
 use Rattle.aa_set_commands.specs.declared.refusal.Refusal.{Refusal}
 use Rattle.aa_set_commands.specs.declared.refusal.RefusalKind.TheVariants.{Absent, BadRequest, Disabled, Exists, LineTooLong, Memory, NoMark, NothingToRedo, NothingToUndo}
-use Rattle.aa_set_lines.specs.Limits.{longest_line}
+use Rattle.aa_set_commands.specs.Limits.{longest_line}
 use Rattle.aa_text_files.specs.Files.{File}
 use Rattle.aatry_policy.specs.Origins.{origin_in}
 use Rattle.aatry_folder.specs.declared.loading.Loading.TheVariants as loading

@@ -6,20 +6,20 @@ use Rattle.std.proofs.lemmas.List.{append-nil}
 use Rattle.aa_profile.specs.FilePlaces.{file_places_in}
 use Rattle.aa_profile.specs.FileReading.{file_profiles_in}
 use Rattle.aa_profile_data.specs.declared.profile.Profile.{Profile}
-use Rattle.aa_profile_errors.specs.declared.profile_error.ProfileError.{ProfileError}
+use Rattle.aa_profile_parsing.specs.declared.profile_error.ProfileError.{ProfileError}
 use Rattle.aa_profile_parsing.specs.declared.language.Language.{Language}
-use Rattle.aa_profile_patterns.specs.declared.places.ProfilePlaces.{ProfilePlaces}
+use Rattle.aa_profile_grammar.specs.declared.places.ProfilePlaces.{ProfilePlaces}
 use Rattle.aa_set_manager.specs.Outcomes.{command_in, command_outcome, line_outcome, obeyed_flagged, refused}
 use Rattle.aa_set_manager.specs.Manager.{Managed, added, after_change, made, replaced}
 use Rattle.aa_set_manager.specs.declared.reply.Reply.{Reply}
 use Rattle.aa_set_manager.specs.declared.reply.Reply.TheVariants.{Done, Refused}
-use Rattle.aa_set_changes.specs.Changes.{by_file, change_takes_memory, profile_count, with_added, with_replaced}
+use Rattle.aa_set_manager.specs.Changes.{by_file, change_takes_memory, profile_count, with_added, with_replaced}
 use Rattle.aa_set_commands.specs.Command.{Add, Ask, Back, Command, Listed, Make, Mark, PolicyChange, Redo, Replace, Show, Undo}
 use Rattle.aa_set_commands.specs.Refusal.{IsRefusalOf, plain}
 use Rattle.aa_set_commands.specs.declared.refusal.Refusal.{Refusal}
 use Rattle.aa_set_commands.specs.declared.refusal.RefusalKind.{RefusalKind}
 use Rattle.aa_set_commands.specs.declared.refusal.RefusalKind.TheVariants.{LineTooLong, Memory}
-use Rattle.aa_set_lines.specs.Limits.{longest_line}
+use Rattle.aa_set_commands.specs.Limits.{longest_line}
 use Rattle.aa_text_files.specs.Files.{File}
 use Rattle.aa_text_files.specs.declared.text_error.Place.{Place}
 use Rattle.aatry_policy.specs.Origins.{file_origins, origins_of}

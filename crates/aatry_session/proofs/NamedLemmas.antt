@@ -4,13 +4,13 @@ use Rattle.std.proofs.lemmas.Bool.{and_parts, true≢false}
 use Rattle.std.proofs.lemmas.Slice.Eq.{bytes_eq-Decides}
 use Rattle.std.specs.List.{filter, list_any}
 use Rattle.std.specs.Str.{bytes_eq}
-use Rattle.aa_decide_slots.specs.Entries.{Loaded}
-use Rattle.aa_decide_slots.specs.Named.{entry_named, has_name}
+use Rattle.aa_decide_ready.specs.Entries.{Loaded}
+use Rattle.aa_decide_ready.specs.Named.{entry_named, has_name}
 use Rattle.aa_profile_data.specs.Profile.{are_distinct, is_named as is_profile_named}
 use Rattle.aa_profile_data.specs.declared.profile.Mode.{Mode}
 use Rattle.aa_profile_data.specs.declared.profile.Profile.{Profile}
 use Rattle.aa_profile_parsing.specs.declared.language.Language.{Language}
-use Rattle.aa_set_changes.specs.Changes.{are_there, in_force, loaded, put, put_all}
+use Rattle.aa_set_manager.specs.Changes.{are_there, in_force, loaded, put, put_all}
 use Rattle.aa_text_files.specs.Files.{File}
 use Rattle.aatry_policy.specs.Origins.{origin_in}
 use Rattle.aatry_policy.specs.PlaceLaws.{AreReadAt, IsReadAt}

@@ -4,17 +4,17 @@ use Rattle.std.proofs.lemmas.List.{length-take-le}
 use Rattle.aa_history.specs.Machine.{Machine, MarksItsSets, accepted, can_go_back, can_go_on, gone_back, gone_on, gone_to_mark, is_marked, with_mark}
 use Rattle.aa_history.specs.MachineLaws.{LengthsAfterBack, LengthsAfterOn}
 use Rattle.aa_history.specs.MarkLaws.{Accept, Mark as MarkStep, MarkKeepsAll, Redo as RedoStep, Return, StepsMarkTheirSets, Undo as UndoStep}
-use Rattle.aa_decide_slots.specs.Entries.{Loaded}
+use Rattle.aa_decide_ready.specs.Entries.{Loaded}
 use Rattle.aa_profile_parsing.specs.declared.language.Language.{Language}
 use Rattle.aa_set_manager.specs.Outcomes.{Outcome, answered, changed, command_in, command_outcome, line_outcome, obeyed, refused, takes_memory}
 use Rattle.aa_set_manager.specs.Manager.{after_change, back_at, is_mark_name, marking, redone, undone}
 use Rattle.aa_set_answers.specs.Answers.{reply_lines, shown}
-use Rattle.aa_set_changes.specs.Changes.{changed as change_of_set, parts_of}
+use Rattle.aa_set_manager.specs.Changes.{changed as change_of_set, parts_of}
 use Rattle.aa_set_commands.specs.Command.{Ask, Back, Command, Listed, Make, Mark, PolicyChange, Redo, Show, Undo}
 use Rattle.aa_set_commands.specs.Refusal.{plain}
 use Rattle.aa_set_commands.specs.declared.refusal.Refusal.{Refusal}
 use Rattle.aa_set_commands.specs.declared.refusal.RefusalKind.TheVariants.{BadRequest, LineTooLong, Memory, NoMark, NothingToRedo, NothingToUndo}
-use Rattle.aa_set_lines.specs.Limits.{longest_line}
+use Rattle.aa_set_commands.specs.Limits.{longest_line}
 use Rattle.aa_set_answers.specs.List.{list_lines}
 use Rattle.aa_text_files.specs.Files.{File}
 use Rattle.aa_set_manager.specs.declared.reply.Reply.{Reply}

@@ -1,10 +1,10 @@
 -- That what loads files marks nothing.
 use Rattle.std.proofs.Common.{◌≡◌, ℕ, Bool, true, false, cond, ◌&&◌, List, [], Result, Ok, Err, ap, length, refl}
-use Rattle.aa_decide_slots.specs.Entries.{Loaded}
+use Rattle.aa_decide_ready.specs.Entries.{Loaded}
 use Rattle.aa_history.specs.Machine.{up_to}
 use Rattle.aa_set_manager.specs.Outcomes.{changed, obeyed, obeyed_flagged, refused, takes_memory}
 use Rattle.aa_set_manager.specs.Manager.{Managed, after_change}
-use Rattle.aa_set_changes.specs.Changes.{changed as change_of_set, parts_of}
+use Rattle.aa_set_manager.specs.Changes.{changed as change_of_set, parts_of}
 use Rattle.aa_set_commands.specs.Command.{Add, Complain, Disable as DisableChange, Make, PolicyChange}
 use Rattle.aa_set_commands.specs.Refusal.{plain}
 use Rattle.aa_set_commands.specs.declared.refusal.Refusal.{Refusal}

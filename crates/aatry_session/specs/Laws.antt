@@ -5,7 +5,7 @@ use Rattle.aa_profile_parsing.specs.declared.language.Language.{Language}
 use Rattle.aa_set_manager.specs.Outcomes.{command_in, line_outcome}
 use Rattle.aa_set.specs.Reply.{is_refusal}
 use Rattle.aa_set_commands.specs.Command.{Add, Make}
-use Rattle.aa_set_lines.specs.Limits.{longest_line}
+use Rattle.aa_set_commands.specs.Limits.{longest_line}
 use Rattle.aa_text_files.specs.Files.{File}
 use Rattle.aatry_session_told.specs.Sayings.{Command, saying_in}
 use Rattle.aatry_folder.specs.declared.loading.Loading.{Loading}

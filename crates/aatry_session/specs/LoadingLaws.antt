@@ -1,7 +1,7 @@
 -- What the law on the loading speaks of: how far back a session goes.
 use Rattle.std.specs.Prelude.{◌≡◌, ℕ, ◌+◌, ◌≤◌, Bool, true, List, [], ◌∷◌, ◌++◌, length, take, Ok}
 use Rattle.std.specs.List.{AllByRecursion}
-use Rattle.aa_decide_slots.specs.Entries.{Loaded}
+use Rattle.aa_decide_ready.specs.Entries.{Loaded}
 use Rattle.aa_history.specs.Machine.{Machine, all_sets}
 use Rattle.aa_profile_parsing.specs.declared.language.Language.{Language}
 use Rattle.aa_set_commands.specs.Refusal.{plain}

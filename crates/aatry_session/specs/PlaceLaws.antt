@@ -1,7 +1,7 @@
 -- What the law on places speaks of: where the profiles of a session were read, as far as it knows.
 use Rattle.std.specs.Prelude.{◌≡◌, ℕ, Bool, List, IfSome, Option, None, Some, slice_get}
-use Rattle.aa_decide_slots.specs.Entries.{Loaded}
-use Rattle.aa_decide_slots.specs.Named.{entry_named}
+use Rattle.aa_decide_ready.specs.Entries.{Loaded}
+use Rattle.aa_decide_ready.specs.Named.{entry_named}
 use Rattle.aa_history.specs.Machine.{all_sets}
 use Rattle.aa_profile_data.specs.declared.profile.Profile.{Profile}
 use Rattle.aa_profile_parsing.specs.declared.language.Language.{Language}

@@ -15,8 +15,7 @@ ghost use Rattle.aatry_session.specs.Turns.{file_added};
 
 use crate::origins::Origins;
 use aa_profile::{FileProfiles, ProfileError, read_file_in};
-use aa_set_commands::{PolicyChange, Refusal, RefusalKind, plain};
-use aa_set_lines::LONGEST_LINE;
+use aa_set_commands::{LONGEST_LINE, PolicyChange, Refusal, RefusalKind, plain};
 use aa_set_manager::{Manager, Reply, reply_to};
 use aa_text_files::Files;
 use aatry_policy::origins_of;

@@ -6,7 +6,7 @@ use Rattle.aa_profile_parsing.specs.declared.language.Language.{Language}
 use Rattle.aa_text_files.specs.Files.{File}
 use Rattle.aatry_session_run.specs.Session.{LoadsEach, LoadsOne, Standing, settled}
 use Rattle.aatry_session.specs.Turns.{Kept}
-use Rattle.aaset_start.specs.Known.{Known}
+use Rattle.aa_start.specs.Known.{Known}
 use Rattle.aatry_session_run.specs.Ends.{IsEndOfSession}
 use Rattle.aatry_folder.specs.declared.fault.Fault.{Fault}
 use Rattle.aatry_folder.specs.declared.fault.Fault.TheVariants as fault

@@ -2,14 +2,14 @@
 use Rattle.std.specs.Prelude.{◌≡◌, ◌⊎◌, ℕ, Bool, true, List, Option, length}
 use Rattle.std.specs.Io.KnownBytes.{Appends}
 use Rattle.aa_profile_parsing.specs.declared.language.Language.{Language}
-use Rattle.aa_set_lines.specs.Streams.{AppendsFront}
+use Rattle.aa_set_commands.specs.Streams.{AppendsFront}
 use Rattle.aatry_folder.specs.Unread.{IsOfFolder}
 use Rattle.aatry_folder.specs.declared.fault.Fault.{Fault}
 use Rattle.aatry_folder.specs.declared.fault.Fault.TheVariants.{NoMemory, Read, Write}
-use Rattle.aatry_input.specs.Inputs.{GivesLine, most_lines}
+use Rattle.aatry_logs.specs.OpenedInputs.{GivesLine, most_lines}
 use Rattle.aatry_session_run.specs.Session.{Answers, IsLoaded, IsTurn, Standing, State, at_first_line}
 use Rattle.aatry_folder.specs.Told.{ToldFolders}
-use Rattle.aaset_start.specs.Known.{Known}
+use Rattle.aa_start.specs.Known.{Known}
 
 -- The prompt was written, the next line of the input was answered, and a front of what is told of it was written.
 abbrev pub IsToldInPart : ToldFolders → Known → List ℕ → List ℕ → Standing → (after : Option (List ℕ)) → Type 0

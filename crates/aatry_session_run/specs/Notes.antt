@@ -3,7 +3,7 @@ use Rattle.std.specs.Prelude.{◌≡◌, ◌⊎◌, ℕ, if◌then◌else◌, Li
 use Rattle.std.specs.Str.{bytes_eq}
 use Rattle.aa_bytes.specs.Bytes.{line_feed}
 use Rattle.aa_text_files.specs.Files.{File, bytes_at, bytes_of}
-use Rattle.aaset_start.specs.Known.{Known}
+use Rattle.aa_start.specs.Known.{Known}
 use Rattle.aatry_folder.specs.OneFile.{IsFileAt}
 use Rattle.aatry_folder.specs.Unread.{IsOfFile}
 use Rattle.aatry_folder.specs.declared.fault.Fault.{Fault}

@@ -4,13 +4,13 @@ use Rattle.std.specs.Io.KnownBytes.{Appends}
 use Rattle.std.specs.Str.{bytes_eq}
 use Rattle.aa_bytes.specs.Bytes.{line_feed}
 use Rattle.aa_profile.specs.FileReading.{file_profiles_in}
-use Rattle.aa_profile_access.specs.FullNames.{full_name}
+use Rattle.aa_profile_data.specs.FullNames.{full_name}
 use Rattle.aa_profile_parsing.specs.declared.language.Language.{Language}
 use Rattle.aa_set_answers.specs.Answers.{who_asks}
 use Rattle.aa_set_commands.specs.Question.{Question}
 use Rattle.aa_text_files.specs.Files.{File}
-use Rattle.aaset_start.specs.Gathering.{names_of}
-use Rattle.aaset_start.specs.declared.readable.UnreadFault.{UnreadFault}
+use Rattle.aa_start.specs.Gathering.{names_of}
+use Rattle.aa_start.specs.declared.readable.UnreadFault.{UnreadFault}
 use Rattle.aatry_why.specs.Why.{answered_text}
 use Rattle.aatry_why.specs.Sources.{Sources}
 use Rattle.aatry_folder.specs.Loadings.{AreTop, TopFile}
@@ -20,7 +20,7 @@ use Rattle.aatry_session_run.specs.Faults.{told_line}
 use Rattle.aatry_session_run.specs.Notes.{IsNoted}
 use Rattle.aatry_session_run.specs.Status.{IsStatus}
 use Rattle.aatry_folder.specs.declared.fault.Fault.{Fault}
-use Rattle.aatry_input.specs.Inputs.{GivesLine}
+use Rattle.aatry_logs.specs.OpenedInputs.{GivesLine}
 use Rattle.aatry_report.specs.Shown.{shown}
 use Rattle.aatry_report.specs.declared.form.Form.TheVariants.{Lines}
 use Rattle.aatry_session_told.specs.History.{ok_line}
@@ -30,7 +30,7 @@ use Rattle.aatry_session.specs.Turns.{Answer, Kept, Told, Ended, Anew, Compared,
 use Rattle.aatry_session.specs.Turns.{add_outcome, begun, history_begun, history_widened, origin_of, turn_outcome, unplaced}
 use Rattle.aatry_session_told.specs.Commands.{loaded_file}
 use Rattle.aatry_folder.specs.Told.{ToldFolders}
-use Rattle.aaset_start.specs.Known.{Known}
+use Rattle.aa_start.specs.Known.{Known}
 
 -- a session over a folder of policy: all that lies below it, as it was read last, and the session itself
 pub record State : Type 0 where

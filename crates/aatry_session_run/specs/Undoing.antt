@@ -2,7 +2,7 @@
 use Rattle.std.specs.Prelude.{◌≢◌, ℕ, List, Option}
 use Rattle.std.specs.List.{AllByRecursion}
 use Rattle.aa_profile_parsing.specs.declared.language.Language.{Language}
-use Rattle.aaset_start.specs.Known.{Known}
+use Rattle.aa_start.specs.Known.{Known}
 use Rattle.aatry_folder.specs.Told.{ToldFolders}
 use Rattle.aatry_session.specs.LoadingLaws.{UndoesTo}
 use Rattle.aatry_session_run.specs.Session.{Answers, IsLoaded, Standing, State, at_first_line}

@@ -2,7 +2,7 @@
 
 ghost use Rattle.aatry_session_run.specs.Undoing.{UndoesToTheLoaded};
 
-use aaset_start::FileSystem;
+use aa_start::FileSystem;
 use aatry_folder::Folders;
 use aatry_session::{how_far_sessions_go_back, the_history_is_in_step};
 

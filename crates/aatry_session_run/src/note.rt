@@ -9,8 +9,8 @@ ghost use Rattle.aatry_session_run.specs.Notes.{IsNoted, IsNotedOf, IsUnreadAt, 
 ghost use Rattle.aatry_session_told.specs.Commands.{loaded_file};
 
 use crate::state::Setting;
+use aa_start::FileSystem;
 use aa_text_files::Files;
-use aaset_start::FileSystem;
 use aatry_folder::{Folders, file_at};
 use aatry_report::{path_below, push_shown};
 use aatry_session_told::loaded_file;

@@ -7,8 +7,8 @@ ghost use Rattle.aatry_session_run.specs.Status.{IsStatus, TellsDisk};
 
 use crate::faults::push_told;
 use crate::state::{Setting, Table};
+use aa_start::FileSystem;
 use aa_text_files::Files;
-use aaset_start::FileSystem;
 use aatry_folder::{Folders, policy_below};
 use aatry_report::push_shown_lines;
 use aatry_session::Session;

@@ -2,8 +2,8 @@
 use Rattle.std.specs.Prelude.{ℕ, Bool, false, ◌&&◌, nat_le, nat_lt, if◌then◌else◌, List, length, Option, None, Some, Result, Ok}
 use Rattle.aa_set_commands.specs.Command.{Command, Make, Undo, PolicyChange, Add, Replace, line_command}
 use Rattle.aa_set_commands.specs.declared.refusal.Refusal.{Refusal}
-use Rattle.aa_set_lines.specs.Limits.{longest_line}
-use Rattle.aa_set_lines.specs.Words.{words_of}
+use Rattle.aa_set_commands.specs.Limits.{longest_line}
+use Rattle.aa_set_commands.specs.Words.{words_of}
 
 -- the change that a command makes, if it is one that changes the policy set
 abbrev pub change_in : Result (Option Command) Refusal → Option PolicyChange

@@ -6,7 +6,7 @@ use Rattle.aa_set_commands.specs.Refusal.{number_of}
 use Rattle.aa_set_commands.specs.declared.refusal.Refusal.{Refusal}
 use Rattle.aa_text_files.specs.Files.{File, bytes_at, name_at}
 use Rattle.aa_text_files.specs.declared.text_error.Place.{Place}
-use Rattle.aaset_start.specs.Readable.{stand_in}
+use Rattle.aa_start.specs.Readable.{stand_in}
 use Rattle.aatry_questions.specs.Faults.{Found, refusal_of}
 use Rattle.aatry_refusal_words.specs.Refusals.{refusal_words}
 use Rattle.aatry_report.specs.Faults.{fault_lines}

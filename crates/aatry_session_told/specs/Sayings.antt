@@ -3,8 +3,8 @@ use Rattle.std.specs.Prelude.{ℕ, ◌&&◌, nat_le, if◌then◌else◌, List, 
 use Rattle.std.specs.Str.{bytes_eq}
 use Rattle.aa_set_commands.specs.Question.{IsWellFormed, Question, seen_question}
 use Rattle.aa_set_commands.specs.declared.refusal.Refusal.{Refusal}
-use Rattle.aa_set_lines.specs.Limits.{longest_line}
-use Rattle.aa_set_lines.specs.Words.{words_of}
+use Rattle.aa_set_commands.specs.Limits.{longest_line}
+use Rattle.aa_set_commands.specs.Words.{words_of}
 use Rattle.aatry_questions.specs.Faults.{Found, question_fault, seen_fault}
 use Rattle.aatry_questions.specs.Meant.{meant_fault, question_meant}
 use Rattle.aatry_session_told.specs.declared.sayings.Saying.{Saying as CodeSaying}

@@ -3,11 +3,10 @@
 ghost use Rattle.std.specs.Prelude.{◌≡◌};
 ghost use Rattle.std.specs.Option.{option_map};
 ghost use Rattle.aa_set_commands.specs.Command.{line_command, seen_change};
-ghost use Rattle.aa_set_lines.specs.Words.{words_of};
+ghost use Rattle.aa_set_commands.specs.Words.{words_of};
 ghost use Rattle.aatry_session_told.specs.Commands.{change_in, loaded_file, undo_count, undoes_more};
 
-use aa_set_commands::{Command, PolicyChange, read};
-use aa_set_lines::LONGEST_LINE;
+use aa_set_commands::{Command, LONGEST_LINE, PolicyChange, read};
 
 /// The change that the command of a line makes, if it is one that changes the policy set.
 pub fn change_in(line: &[u8]) -> Option<PolicyChange<'_>>

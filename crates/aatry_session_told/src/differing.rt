@@ -236,7 +236,7 @@ fn push_count(out: &mut Vec<u8>, files: usize, differing: usize) -> Result<(), A
 /// Puts behind a text how the files that were read from a folder, whose path is `base`, differ from those that lie there now, `disk`: a line for each that
 /// has other bytes now or isn't there any more, in the order in which they were read; behind these one for each of whose name none was read; and how many
 /// files were read, and how many lines these are. Of a file that couldn't be read, then or now, what stands in its place counts as its bytes
-/// (`aaset_start::gather_readable`). Folders are none of these, and whole paths aren't, by which files have a further name.
+/// (`aa_start::gather_readable`). Folders are none of these, and whole paths aren't, by which files have a further name.
 ///
 /// # Errors
 ///

@@ -11,8 +11,8 @@ ghost use Rattle.aatry_session_told.specs.Refusals.{no_question_told, refusal_to
 
 use aa_profile_parsing::Language;
 use aa_set_commands::Refusal;
+use aa_start::is_stand_in;
 use aa_text_files::{Files, Place};
-use aaset_start::is_stand_in;
 use aatry_questions::{WordFault, push_words_fault, refusal_of, with_nearest};
 use aatry_refusal_words::{kind_words, refusal_words};
 use aatry_report::{path_below, push_fault, push_placed_refusal};

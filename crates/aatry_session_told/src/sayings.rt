@@ -1,12 +1,11 @@
 //! What the lines of a session say.
 
 ghost use Rattle.std.specs.Prelude.{◌≡◌, ◌<◌, [], map};
-ghost use Rattle.aa_set_lines.specs.Words.{words_of};
+ghost use Rattle.aa_set_commands.specs.Words.{words_of};
 ghost use Rattle.aatry_questions.specs.Faults.{question_fault};
 ghost use Rattle.aatry_session_told.specs.Sayings.{IsAskable, ask_saying, line_saying, saying_in, saying_of, seen_saying, why_saying, word_saying, words_saying};
 
-use aa_set_commands::Question;
-use aa_set_lines::{LONGEST_LINE, Words};
+use aa_set_commands::{LONGEST_LINE, Question, Words};
 use aatry_questions::{WordFault, question_fault, read};
 
 // The most words of a question.

@@ -1,7 +1,7 @@
 -- The rules behind a question that two folders answer otherwise (docs/aatry.md).
 use Rattle.std.specs.Prelude.{ℕ, List, [], ◌++◌, codes, Option, None, Some}
 use Rattle.aa_explain_diff.specs.Features.{Feature, lacking}
-use Rattle.aa_profile_access.specs.Request.{Request}
+use Rattle.aa_profile_data.specs.Request.{Request}
 use Rattle.aatry_shared.specs.Differing.{told_lines}
 use Rattle.aatry_shared.specs.PartFeatures.{covering_from}
 use Rattle.aatry_shared.specs.declared.side.Side.{Side}

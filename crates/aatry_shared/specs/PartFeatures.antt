@@ -2,7 +2,7 @@
 use Rattle.std.specs.Prelude.{ℕ, ◌+◌, ◌==◌, if◌then◌else◌, List, [], ◌∷◌, ◌++◌, codes, Option, None, Some, option_and_then, slice_get}
 use Rattle.aa_decide_rules.specs.Verdict.{covers}
 use Rattle.aa_explain_diff.specs.Features.{Feature, OfAttachment, OfAudit, OfFlag, OfHat, OfMode, OfRule}
-use Rattle.aa_profile_access.specs.Request.{Request}
+use Rattle.aa_profile_data.specs.Request.{Request}
 use Rattle.aa_profile_data.specs.declared.profile.Mode.{Mode}
 use Rattle.aa_profile_data.specs.declared.profile.Rule.{Rule}
 use Rattle.aa_set_answers.specs.RuleLines.{rule_text}

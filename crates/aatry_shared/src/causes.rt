@@ -2,7 +2,7 @@
 
 ghost use Rattle.std.specs.Prelude.{◌≡◌, ◌++◌, IfOk, OnOk, Some, map, option_map};
 ghost use Rattle.aa_explain_diff.specs.Features.{seen_feature};
-ghost use Rattle.aa_profile_access.specs.SeenRequests.{request_of};
+ghost use Rattle.aa_profile_data.specs.SeenRequests.{request_of};
 ghost use Rattle.aatry_shared.specs.Causes.{cause_lines, causes_of, covering_of};
 ghost use Rattle.aatry_policy.specs.FolderParts.{seen_folder};
 ghost use Rattle.aatry_policy.specs.SeenProfiles.{seen_part};
@@ -11,7 +11,7 @@ use crate::differing::push_lines;
 use crate::part_features::covering_features;
 use crate::side::{Side, SidePart, finder_in};
 use aa_explain_diff::{Feature, lacking};
-use aa_profile_access::Request;
+use aa_profile_data::Request;
 use aatry_policy::{FolderParts, Part, part_of};
 use aatry_report::Teller;
 use std::alloc::{AllocError, Global};

@@ -2,13 +2,12 @@
 
 ghost use Rattle.std.specs.Prelude.{◌≡◌, ◌++◌, IfOk, OnOk, map};
 ghost use Rattle.aa_explain_diff.specs.Features.{seen_feature};
-ghost use Rattle.aa_profile_access.specs.SeenRequests.{request_of};
+ghost use Rattle.aa_profile_data.specs.SeenRequests.{request_of};
 ghost use Rattle.aatry_shared.specs.PartFeatures.{covering_feature, covering_from, feature_text, place_at, state_text};
 
 use aa_decide_rules::covers;
 use aa_explain_diff::Feature;
-use aa_profile_access::Request;
-use aa_profile_data::{Mode, Rule};
+use aa_profile_data::{Mode, Request, Rule};
 use aa_set_answers::{mode_word, push_attachment, push_rule};
 use aa_text_files::Place;
 use bitflags::Flags;

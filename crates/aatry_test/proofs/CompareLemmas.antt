@@ -5,7 +5,7 @@ use Rattle.std.proofs.lemmas.Grind.{flat_map-append}
 use Rattle.std.proofs.lemmas.List.{length-take-le}
 use Rattle.std.proofs.lemmas.List.Sums.{sum_by-append}
 use Rattle.aatry_test.specs.Differences.{Counts, counts_of, differs, failure, front_text, last_line, part_of, part_text, parts, seen_part}
-use Rattle.aatry_assertions.specs.Running.{Asserted}
+use Rattle.aatry_test.specs.Running.{Asserted}
 use Rattle.aatry_transcripts.specs.Replies.{told_next}
 use Rattle.aatry_transcripts.specs.Transcripts.{before_command, is_assertion, is_command, wanted_in}
 

@@ -4,16 +4,16 @@ use Rattle.std.specs.List.{filter, list_any}
 use Rattle.std.specs.Prelude.{if◌then◌else◌}
 use Rattle.std.proofs.lemmas.Bool.{and_parts, cases_Bool, eqb-true}
 use Rattle.aa_set.specs.Run.{output}
-use Rattle.aa_set_lines.specs.Lines.{lines}
+use Rattle.aa_set_commands.specs.Lines.{lines}
 use Rattle.aa_set_manager.specs.Manager.{new_manager_in}
 use Rattle.aatry_transcripts.proofs.PassLemmas.{asks_the_same, kind-stays, passes_then}
 use Rattle.aatry_transcripts.specs.Accepting.{accepted_text, can_be_accepted}
 use Rattle.aatry_transcripts.specs.Meeting.{are_met}
 use Rattle.aatry_transcripts.specs.Transcripts.{input_of, is_assertion, is_command, is_note, is_wanted, transcript_lines, wanted_in}
-use Rattle.aaset_start.specs.Known.{Known}
-use Rattle.aatry_assertions.proofs.HoldLemmas.{depend_on_steps}
-use Rattle.aatry_assertions.specs.Laws.{is_step}
-use Rattle.aatry_assertions.specs.Running.{Asserted, nothing_asserted}
+use Rattle.aa_start.specs.Known.{Known}
+use Rattle.aatry_test.proofs.HoldLemmas.{depend_on_steps}
+use Rattle.aatry_test.specs.AssertionLaws.{is_step}
+use Rattle.aatry_test.specs.Running.{Asserted, nothing_asserted}
 use Rattle.aatry_test.specs.Differences.{comparison, passes}
 use Rattle.aatry_test.specs.Laws.{AcceptedPass, NothingIsReplaced}
 use Rattle.aatry_test.specs.Tests.{Accepted, Failed, Passed, is_accepted, outcome_of, replaced_of, says_memory, told_for}

@@ -4,8 +4,8 @@ use Rattle.std.specs.Fmt.{decimal}
 use Rattle.std.specs.List.{filter, list_all, list_any}
 use Rattle.std.specs.Str.{bytes_eq}
 use Rattle.aa_bytes.specs.Bytes.{line_feed}
-use Rattle.aatry_assertions.specs.Headings.{heading}
-use Rattle.aatry_assertions.specs.Running.{Asserted}
+use Rattle.aatry_test.specs.Headings.{heading}
+use Rattle.aatry_test.specs.Running.{Asserted}
 use Rattle.aatry_report.specs.Shown.{shown}
 use Rattle.aatry_transcripts.specs.Meeting.{are_met}
 use Rattle.aatry_transcripts.specs.Replies.{told_next}

@@ -3,7 +3,7 @@ use Rattle.std.specs.Prelude.{◌≡◌, ℕ, ◌+◌, Bool, true, false, if◌t
 use Rattle.std.specs.List.{list_any}
 use Rattle.aa_profile_parsing.specs.declared.language.Language.{Language}
 use Rattle.aa_text_files.specs.Files.{File}
-use Rattle.aaset_start.specs.Known.{Known}
+use Rattle.aa_start.specs.Known.{Known}
 use Rattle.aatry_test.specs.Below.{Came, TestsEach}
 use Rattle.aatry_test.specs.Differences.{Part, part_of, parts}
 use Rattle.aatry_test.specs.Tests.{Accepted, IsTested, Passed}

@@ -1,7 +1,12 @@
+pub mod Asserting
+pub mod AssertionLaws
 pub mod Below
+pub mod Claims
 pub mod Differences
 pub mod Ends
+pub mod Headings
 pub mod Laws
+pub mod Running
 pub mod SeenCounts
 pub mod SeenOutcomes
 pub mod SeenTests

@@ -4,10 +4,10 @@ use Rattle.std.specs.List.{list_any}
 use Rattle.aa_bytes.specs.Texts.{begins_with}
 use Rattle.aa_profile_parsing.specs.declared.language.Language.{Language}
 use Rattle.aa_set.specs.Run.{output}
-use Rattle.aa_set_lines.specs.Lines.{lines}
+use Rattle.aa_set_commands.specs.Lines.{lines}
 use Rattle.aa_set_manager.specs.Manager.{new_manager_in}
 use Rattle.aa_text_files.specs.Files.{File}
-use Rattle.aatry_assertions.specs.Running.{Asserted, IsTranscriptAsserted}
+use Rattle.aatry_test.specs.Running.{Asserted, IsTranscriptAsserted}
 use Rattle.aatry_transcripts.specs.Accepting.{accepted_text, can_be_accepted}
 use Rattle.aatry_transcripts.specs.Transcripts.{input_of, transcript_lines}
 use Rattle.aatry_test.specs.Differences.{comparison, passes}

@@ -1,7 +1,7 @@
 //! The test of transcripts over a folder of policy on a disk.
 
 ghost use Rattle.std.specs.Prelude.{◌≡◌, ◌++◌, ◌∷◌, ◌+◌, ◌-◌, ◌<◌, ◌≤◌, ◌^◌, [], IfErr, IfOk, OnErr, OnOk, map, string_bytes};
-ghost use Rattle.aaset_start.specs.Gathering.{texts_of};
+ghost use Rattle.aa_start.specs.Gathering.{texts_of};
 ghost use Rattle.aatry_folder.specs.Reports.{seen_report};
 ghost use Rattle.aatry_folder.specs.Unread.{IsOfFile, IsOfOneFile};
 ghost use Rattle.aatry_test.specs.Below.{Came, IsFileTested, IsTestedAndReplaced, TestsEach, and_then, came_to_nothing};
@@ -14,8 +14,8 @@ ghost use Rattle.aatry_test.specs.Tests.{failed_of, replaced_of};
 use crate::store::{FileStore, fault_of_store};
 use crate::testing::{Outcome, Transcript, test};
 use aa_set::Language;
+use aa_start::FileSystem;
 use aa_text_files::Files;
-use aaset_start::FileSystem;
 use aatry_arguments::Test;
 use aatry_folder::{Fault, Folders, Report, file_at, policy_below};
 use std::alloc::{AllocError, Global};

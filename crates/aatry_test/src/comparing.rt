@@ -1,14 +1,15 @@
 //! A transcript, compared with what the run of its commands tells, and with what its assertions come to.
 
 ghost use Rattle.std.specs.Prelude.{◌≡◌, ◌++◌, ◌∷◌, [], IfOk, OnOk, ◌≤◌, count_by, flat_map};
-ghost use Rattle.aatry_assertions.specs.Running.{seen_asserted};
+ghost use Rattle.aatry_test.specs.Running.{seen_asserted};
 ghost use Rattle.aatry_test.specs.Differences.{comparison, count_words, differs, failure, last_line, outcome_words};
 ghost use Rattle.aatry_test.specs.Differences.{part_of, part_text, parts, passed_line, passes, seen_part};
 ghost use Rattle.aatry_test.specs.SeenCounts.{seen_counts};
 ghost use Rattle.aatry_transcripts.specs.Transcripts.{texts};
 
+use crate::asserted::Asserted;
 use crate::differences::{push_differing_lines, push_front};
-use aatry_assertions::{Asserted, push_heading};
+use crate::headings::push_heading;
 use aatry_report::{push_number, push_shown};
 use aatry_transcripts::{
     are_met, assertion_count, command_count, is_command, line_at, lines_behind, told_size,

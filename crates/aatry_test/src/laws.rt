@@ -2,7 +2,7 @@
 
 ghost use Rattle.aatry_test.specs.Laws.{AcceptedPass, AllIsTold, AllIsWanted, EachHasItsReply, NothingIsReplaced};
 
-use aaset_start::FileSystem;
+use aa_start::FileSystem;
 
 /// What differs is told below the command that it answers: where each command is answered by a reply of the form that replies have, whose first line alone
 /// begins one, its part has that reply. Whatever is told, no line of it is left out where there is a command; and no line that is wanted is left out.

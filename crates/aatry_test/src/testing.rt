@@ -3,20 +3,21 @@
 ghost use Rattle.std.specs.Prelude.{◌≡◌, ◌++◌, ℕ, Bool, List, IfOk, false, if◌then◌else◌};
 ghost use Rattle.std.specs.List.{list_any};
 ghost use Rattle.aa_set.specs.Run.{output};
-ghost use Rattle.aa_set_lines.specs.Lines.{lines as lines_in};
+ghost use Rattle.aa_set_commands.specs.Lines.{lines as lines_in};
 ghost use Rattle.aa_set_manager.specs.Manager.{new_manager_in};
 ghost use Rattle.aatry_test.specs.Differences.{comparison};
 ghost use Rattle.aatry_test.specs.SeenOutcomes.{seen_outcome};
 ghost use Rattle.aatry_test.specs.Tests.{Accepted, Failed, IsTested, is_accepted, outcome_of, says_memory};
-ghost use Rattle.aatry_assertions.specs.Running.{seen_asserted};
+ghost use Rattle.aatry_test.specs.Running.{seen_asserted};
 ghost use Rattle.aatry_transcripts.specs.Accepting.{accepted_text};
 ghost use Rattle.aatry_transcripts.specs.Transcripts.{input_of, texts, transcript_lines};
 
+use crate::asserted::Asserted;
 use crate::comparing::compare;
+use crate::running::{Run, assert_lines};
 use aa_bytes::begins_with;
 use aa_set::{FromRead, Language, ToWrite, run_in};
 use aa_text_files::Files;
-use aatry_assertions::{Asserted, Run, assert_lines};
 use aatry_transcripts::{accepted_text, can_be_accepted, input_of, lines_of, transcript_lines};
 use std::alloc::{AllocError, Global};
 
@@ -145,7 +146,7 @@ fn compare_with(
 
 /// Runs the commands of a transcript over these files, read by a language, from the empty policy set on, compares what is told with what the
 /// transcript wants, asks its assertions, puts what is found behind a text, and says how the transcript came out. In a transcript a line that begins with `> `
-/// holds a command, and one that begins with `! ` an assertion (`aatry_assertions::assert_lines`); a line that begins with `#` and one of blanks are left
+/// holds a command, and one that begins with `! ` an assertion (`aatry_test::assert_lines`); a line that begins with `#` and one of blanks are left
 /// out, and each other line is wanted. A carriage return at a line's end is left out.
 ///
 /// It passed where all that is told is what its wanted lines ask for, and all its assertions hold. Otherwise it failed; or where `accept`, what is told

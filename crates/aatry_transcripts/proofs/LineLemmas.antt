@@ -5,7 +5,7 @@ use Rattle.std.specs.Prelude.{if◌then◌else◌}
 use Rattle.std.proofs.lemmas.Bool.{or_parts, cond-false}
 use Rattle.aa_bytes.specs.Bytes.{line_feed}
 use Rattle.aa_bytes.specs.Texts.{is_empty}
-use Rattle.aa_set_lines.specs.Lines.{is_line_feed, lines, without_empty_last}
+use Rattle.aa_set_commands.specs.Lines.{is_line_feed, lines, without_empty_last}
 
 -- what has no separator is its one piece
 piece_whole : (p : ℕ → Bool) (text : List ℕ) → list_any p text ≡ false → slice_split p text ≡ text ∷ []

@@ -10,7 +10,7 @@ use Rattle.std.proofs.lemmas.List.Elements.{filter-append}
 use Rattle.std.proofs.lemmas.List.Folds.{list_all-append, list_any-append}
 use Rattle.std.proofs.lemmas.Slice.Eq.{bytes_eq-Decides}
 use Rattle.aa_bytes.specs.Texts.{is_empty}
-use Rattle.aa_set_lines.specs.Lines.{is_line_feed, lines}
+use Rattle.aa_set_commands.specs.Lines.{is_line_feed, lines}
 use Rattle.aatry_transcripts.specs.Accepting.{accepted_from, accepted_line, accepted_lines, accepted_text, can_be_wanted, end_of, is_answered, new_lines, other_line, renewed, shortened, stay_behind, told_to, wanted_behind}
 use Rattle.aatry_transcripts.specs.Laws.{AsksTheSame, CanBeAccepted, KeepsTheOthers, PassesThen}
 use Rattle.aatry_transcripts.specs.Meeting.{are_met, leaves_out, left_out}

@@ -2,7 +2,7 @@
 use Rattle.std.proofs.Common.{◌≡◌, ◌∙◌, ℕ, Bool, true, false, not, ◌||◌, List, [], ◌∷◌, ap, inl, inr, refl, sym}
 use Rattle.std.specs.List.{list_all, list_any, onto_first, slice_split}
 use Rattle.std.proofs.lemmas.Bool.{and_from, and_parts, cases_Bool, cond-false, cond-true, not-true, not_from_false, or_from}
-use Rattle.aa_set_lines.specs.Lines.{is_line_feed, lines, without_empty_last}
+use Rattle.aa_set_commands.specs.Lines.{is_line_feed, lines, without_empty_last}
 use Rattle.aatry_transcripts.specs.Accepting.{ended}
 use Rattle.aatry_transcripts.proofs.LineLemmas.{lines-front, piece_first}
 

@@ -6,7 +6,7 @@ use Rattle.std.specs.Str.{bytes_eq}
 use Rattle.std.specs.Str.Lines.{strip_carriage_return}
 use Rattle.aa_bytes.specs.Bytes.{line_feed}
 use Rattle.aa_bytes.specs.Texts.{is_empty}
-use Rattle.aa_set_lines.specs.Lines.{lines}
+use Rattle.aa_set_commands.specs.Lines.{lines}
 use Rattle.aatry_transcripts.specs.Meeting.{are_met, leaves_out, left_out}
 use Rattle.aatry_transcripts.specs.Replies.{begins_reply, is_audit_line, told_next}
 use Rattle.aatry_transcripts.specs.Transcripts.{before_command, is_aside, is_command, is_wanted, wanted_in}

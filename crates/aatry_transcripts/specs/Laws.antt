@@ -2,7 +2,7 @@
 use Rattle.std.specs.Prelude.{◌≡◌, ℕ, true, not, List}
 use Rattle.std.specs.List.{filter}
 use Rattle.std.specs.Str.Lines.{strip_carriage_return}
-use Rattle.aa_set_lines.specs.Lines.{lines}
+use Rattle.aa_set_commands.specs.Lines.{lines}
 use Rattle.aatry_transcripts.specs.Accepting.{accepted_text, can_be_accepted}
 use Rattle.aatry_transcripts.specs.Meeting.{are_met}
 use Rattle.aatry_transcripts.specs.Transcripts.{input_of, is_wanted, transcript_lines, wanted_in}

@@ -5,8 +5,8 @@ use Rattle.std.specs.List.{filter, list_all, prefix_len}
 use Rattle.std.specs.Str.Lines.{strip_carriage_return}
 use Rattle.aa_bytes.specs.Bytes.{hash, line_feed}
 use Rattle.aa_bytes.specs.Texts.{begins_with, begins_with_byte}
-use Rattle.aa_set_lines.specs.Lines.{lines}
-use Rattle.aa_set_lines.specs.Words.{is_command_blank}
+use Rattle.aa_set_commands.specs.Lines.{lines}
+use Rattle.aa_set_commands.specs.Words.{is_command_blank}
 
 -- the lines behind references
 abbrev pub texts : List (Bor (List ℕ)) → List (List ℕ)

@@ -3,10 +3,10 @@
 ghost use Rattle.std.specs.Prelude.{◌≡◌, ◌+◌, ◌<◌, ◌≤◌, ◌++◌, ◌∷◌, [], IfOk, OnOk, drop, if◌then◌else◌, length, map};
 ghost use Rattle.std.specs.Str.Lines.{strip_carriage_return};
 ghost use Rattle.aa_bytes.specs.Texts.{is_empty};
-ghost use Rattle.aa_set_lines.specs.Lines.{lines};
+ghost use Rattle.aa_set_commands.specs.Lines.{lines};
 ghost use Rattle.aatry_transcripts.specs.Transcripts.{texts, transcript_lines};
 
-use aa_set_lines::first_line;
+use aa_set_commands::first_line;
 use std::alloc::{AllocError, Global};
 
 // Puts a last line behind others, where it isn't empty.

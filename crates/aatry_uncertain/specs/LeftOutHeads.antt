@@ -2,7 +2,7 @@
 use Rattle.std.specs.Prelude.{ℕ, Bool, List, [], Option, None, Some, flat_map, map}
 use Rattle.std.specs.List.{list_any}
 use Rattle.std.specs.Str.{bytes_eq}
-use Rattle.aa_profile_access.specs.FullNames.{full_name}
+use Rattle.aa_profile_data.specs.FullNames.{full_name}
 use Rattle.aa_text_files.specs.Files.{File, bytes_of}
 use Rattle.aatry_folder.specs.Loadings.{file_names, seen_top}
 use Rattle.aatry_policy.specs.Folders.{Folder, files_left_out}

@@ -4,7 +4,7 @@ use Rattle.std.specs.Str.{bytes_eq}
 use Rattle.serde_json.specs.Data.{Members}
 use Rattle.aa_bytes.specs.Bytes.{line_feed}
 use Rattle.aa_bytes.specs.Quoting.{written_text}
-use Rattle.aa_profile_access.specs.FullNames.{full_name}
+use Rattle.aa_profile_data.specs.FullNames.{full_name}
 use Rattle.aatry_report.specs.FilePlaces.{path_below}
 use Rattle.aatry_report.specs.Records.{record_line, record_of, with_text}
 use Rattle.aatry_report.specs.Shown.{shown}

@@ -8,7 +8,7 @@ ghost use Rattle.aatry_uncertain.specs.LeftOutHeads.{heads_in_bytes, heads_in_fi
 ghost use Rattle.aatry_uncertain.specs.SeenHeads.{all_left_out, seen_heads};
 
 use crate::heads::{Head, heads_of};
-use aa_profile_access::cut_full_name;
+use aa_profile_data::cut_full_name;
 use aa_text_files::Files;
 use aatry_policy::{LeftOut, LoadedFolder, left_out_of};
 use std::alloc::{AllocError, Global};

@@ -9,7 +9,7 @@ ghost use Rattle.aatry_uncertain.specs.Told.{unsure_line, unsure_record, unsure_
 use crate::fitting::may_fit;
 use crate::left_out::{LeftOutHead, LeftOutHeads};
 use aa_bytes::push_text;
-use aa_profile_access::cut_full_name;
+use aa_profile_data::cut_full_name;
 use aatry_report::{Form, Record, Teller, path_below, push_shown};
 use std::alloc::{AllocError, Global};
 

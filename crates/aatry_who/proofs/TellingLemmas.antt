@@ -6,7 +6,7 @@ use Rattle.serde_json.specs.Written.{compact_text}
 use Rattle.aa_bytes.specs.Bytes.{line_feed}
 use Rattle.aa_bytes.specs.Texts.{is_empty}
 use Rattle.aa_decide.specs.Exec.{Asker, Started}
-use Rattle.aa_decide_slots.specs.Entries.{Loaded}
+use Rattle.aa_decide_ready.specs.Entries.{Loaded}
 use Rattle.aa_set_answers.specs.Answers.{answered, told_by}
 use Rattle.aa_set_answers.specs.Askers.{asker}
 use Rattle.aa_set_answers.specs.Laws.{IsListed}

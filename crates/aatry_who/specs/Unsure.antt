@@ -1,8 +1,8 @@
 -- Of whom it can't be told whether they would be let through: of the profiles of files that are left out (docs/aatry.md).
 use Rattle.std.specs.Prelude.{ℕ, List, [], Option, None, Some, flat_map}
 use Rattle.aa_decide.specs.Exec.{Asker, named_asker}
-use Rattle.aa_decide_slots.specs.Entries.{Loaded}
-use Rattle.aa_profile_access.specs.FullNames.{full_name}
+use Rattle.aa_decide_ready.specs.Entries.{Loaded}
+use Rattle.aa_profile_data.specs.FullNames.{full_name}
 use Rattle.aatry_policy.specs.Folders.{Folder, policy_in}
 use Rattle.aatry_report.specs.declared.form.Form.{Form}
 use Rattle.aatry_uncertain.specs.LeftOutHeads.{LeftOutHead, heads_left_out}

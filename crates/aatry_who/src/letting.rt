@@ -1,8 +1,8 @@
 //! Which profiles, children and hats would let through what is asked for.
 
 ghost use Rattle.std.specs.Prelude.{◌≡◌, ◌∷◌, [], ◌++◌, IfOk, None, OnOk, option_map};
-ghost use Rattle.aa_decide_slots.specs.Slots.{filled};
-ghost use Rattle.aa_profile_access.specs.SeenRequests.{request_of};
+ghost use Rattle.aa_decide_ready.specs.Slots.{filled};
+ghost use Rattle.aa_profile_data.specs.SeenRequests.{request_of};
 ghost use Rattle.aa_set_answers.specs.Children.{lines_of_children};
 ghost use Rattle.aa_set_commands.specs.Question.{seen_question};
 ghost use Rattle.aatry_policy.specs.FolderParts.{seen_folder};
@@ -19,8 +19,8 @@ use aa_decide::{Answer, Entry, Request};
 use aa_explain_rules::AskedRules;
 use aa_profile_data::{Child, Mode};
 use aa_set_answers::{Answered, full_name};
-use aa_set_changes::PolicySet;
 use aa_set_commands::{Question, RefusalKind};
+use aa_set_manager::PolicySet;
 use aatry_policy::{FolderParts, Part, part_of};
 use aatry_report::{Form, Record, Teller, push_shown};
 use aatry_requests::rule_request;

@@ -1,7 +1,7 @@
 //! What is asked of a policy, and what each who may ask is answered.
 
 ghost use Rattle.std.specs.Prelude.{◌≡◌, IfErr, IfOk, Ok};
-ghost use Rattle.aa_decide_slots.specs.Slots.{filled};
+ghost use Rattle.aa_decide_ready.specs.Slots.{filled};
 ghost use Rattle.aa_explain.specs.Leads.{seen_destination};
 ghost use Rattle.aa_set_commands.specs.Refusal.{IsRefusalOf};
 ghost use Rattle.aatry_who.specs.Sought.{answer_to, led, seen_sought, started_by};

@@ -1,7 +1,7 @@
 //! Of whom it can't be told whether they would be let through: of the profiles of files that are left out.
 
 ghost use Rattle.std.specs.Prelude.{◌≡◌, ◌++◌, OnOk};
-ghost use Rattle.aa_decide_slots.specs.Slots.{filled};
+ghost use Rattle.aa_decide_ready.specs.Slots.{filled};
 ghost use Rattle.aatry_policy.specs.Folders.{loaded_in, outcomes_in, seen_folder};
 ghost use Rattle.aatry_uncertain.specs.SeenHeads.{all_left_out, seen_left_out};
 ghost use Rattle.aatry_who.specs.Unsure.{unsure_in, unsure_lines, unsure_text};

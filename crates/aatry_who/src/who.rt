@@ -2,7 +2,7 @@
 
 ghost use Rattle.std.specs.Prelude.{◌≡◌, ◌++◌, ◌⊎◌, Bool, IfErr, IfOk, OnOk, map, string_bytes};
 ghost use Rattle.aa_set_commands.specs.Question.{seen_question};
-ghost use Rattle.aaset_start.specs.Gathering.{texts_of};
+ghost use Rattle.aa_start.specs.Gathering.{texts_of};
 ghost use Rattle.aatry_folder.specs.Reports.{failed_by, seen_report};
 ghost use Rattle.aatry_folder.specs.declared.fault.Fault.TheVariants as fault;
 ghost use Rattle.aatry_policy.specs.Folders.{left_out_note, loaded_in, origins_in, outcomes_in, seen_folder};
@@ -15,7 +15,7 @@ use crate::letting::who_lines;
 use crate::unsure::push_unsure_in;
 use aa_profile_parsing::Language;
 use aa_set_commands::Question;
-use aaset_start::FileSystem;
+use aa_start::FileSystem;
 use aatry_arguments::Asking;
 use aatry_folder::{Fault, Folders, PolicyFolder, Report, failed_by, policy_below};
 use aatry_policy::{LoadedFolder, by_parts, load_folder, parts_of};

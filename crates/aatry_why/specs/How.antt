@@ -4,11 +4,11 @@ use Rattle.serde_json.specs.Data.{Members}
 use Rattle.aa_bytes.specs.Bytes.{ampersand, line_feed}
 use Rattle.aa_bytes.specs.Texts.{begins_with_byte, is_empty}
 use Rattle.aa_decide.specs.Exec.{Asker}
-use Rattle.aa_decide_slots.specs.Confinement.{By, ByName, Confinement, Unconfined, in_state}
-use Rattle.aa_decide_slots.specs.Entries.{Loaded}
-use Rattle.aa_profile_access.specs.ExecWords.{row}
-use Rattle.aa_profile_access.specs.declared.exec_word.Destination.{Destination}
-use Rattle.aa_profile_access.specs.declared.exec_word.Destination.TheVariants as to
+use Rattle.aa_decide_ready.specs.Confinement.{By, ByName, Confinement, Unconfined, in_state}
+use Rattle.aa_decide_ready.specs.Entries.{Loaded}
+use Rattle.aa_profile_data.specs.ExecWords.{row}
+use Rattle.aa_profile_data.specs.declared.exec_word.Destination.{Destination}
+use Rattle.aa_profile_data.specs.declared.exec_word.Destination.TheVariants as to
 use Rattle.aa_set_answers.specs.Askers.{asker}
 use Rattle.aatry_why.specs.AttachmentLines.{attachment_lines}
 use Rattle.aa_explain.specs.Candidates.{Candidate, child_candidates, profile_candidates}

@@ -1,9 +1,9 @@
 -- The loaded name that may have been meant, where nobody of a name is loaded.
 use Rattle.std.specs.Prelude.{ℕ, List, [], map, Option, None}
-use Rattle.aa_decide_slots.specs.Entries.{Loaded}
+use Rattle.aa_decide_ready.specs.Entries.{Loaded}
 use Rattle.aa_set_commands.specs.declared.refusal.RefusalKind.{RefusalKind}
 use Rattle.aa_set_commands.specs.declared.refusal.RefusalKind.TheVariants.{Absent}
-use Rattle.aatry_near.specs.Paths.{near_path}
+use Rattle.aatry_words.specs.Paths.{near_path}
 use Rattle.aatry_policy.specs.Parts.{Part, set_parts}
 
 -- the full names of parts

@@ -2,7 +2,7 @@
 use Rattle.std.specs.Prelude.{List, Option, option_map}
 use Rattle.aa_decide.specs.Exec.{Asker}
 use Rattle.aa_decide_ready.specs.Ready.{audits, rules_at}
-use Rattle.aa_profile_access.specs.FullNames.{full_name}
+use Rattle.aa_profile_data.specs.FullNames.{full_name}
 use Rattle.aa_set_answers.specs.Answers.{who_asks}
 use Rattle.aa_set_commands.specs.Question.{Question}
 use Rattle.aatry_folder.specs.PolicyFiles.{PolicyFiles, seen_files}

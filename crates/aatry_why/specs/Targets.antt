@@ -1,11 +1,11 @@
 -- On which names of profiles it hangs where a program runs that is started: on those that the target names, where nobody of the name is loaded (docs/aatry.md).
 use Rattle.std.specs.Prelude.{ℕ, List, [], ◌∷◌, Option, None, Some, flat_map}
 use Rattle.aa_decide.specs.Exec.{Asker, named_asker}
-use Rattle.aa_decide_slots.specs.Entries.{Loaded}
-use Rattle.aa_profile_access.specs.FullNames.{full_name}
-use Rattle.aa_profile_access.specs.Stacks.{Stack, stack_of}
-use Rattle.aa_profile_access.specs.declared.exec_word.Destination.{Destination}
-use Rattle.aa_profile_access.specs.declared.exec_word.Destination.TheVariants as to
+use Rattle.aa_decide_ready.specs.Entries.{Loaded}
+use Rattle.aa_profile_data.specs.FullNames.{full_name}
+use Rattle.aa_profile_data.specs.Stacks.{Stack, stack_of}
+use Rattle.aa_profile_data.specs.declared.exec_word.Destination.{Destination}
+use Rattle.aa_profile_data.specs.declared.exec_word.Destination.TheVariants as to
 use Rattle.aatry_report.specs.declared.form.Form.{Form}
 use Rattle.aatry_uncertain.specs.LeftOutHeads.{LeftOutHead}
 use Rattle.aatry_uncertain.specs.Told.{name_lines}

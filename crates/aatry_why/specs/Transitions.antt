@@ -5,12 +5,12 @@ use Rattle.serde_json.specs.Data.{Members}
 use Rattle.aa_bytes.specs.Bytes.{line_feed}
 use Rattle.aa_decide.specs.Exec.{Nowhere, Null, Stacked, Started, Unconfined, Under}
 use Rattle.aa_explain.specs.Leads.{Lead}
-use Rattle.aa_profile_access.specs.ExecWords.{row}
-use Rattle.aa_profile_access.specs.declared.exec_word.Destination.{Destination}
-use Rattle.aa_profile_access.specs.declared.exec_word.Destination.TheVariants as to
+use Rattle.aa_profile_data.specs.ExecWords.{row}
+use Rattle.aa_profile_data.specs.declared.exec_word.Destination.{Destination}
+use Rattle.aa_profile_data.specs.declared.exec_word.Destination.TheVariants as to
 use Rattle.aa_profile_data.specs.declared.profile.Transition.{Transition}
 use Rattle.aa_bytes.specs.Quoting.{written_text}
-use Rattle.aa_profile_access.specs.Stacks.{stack_of}
+use Rattle.aa_profile_data.specs.Stacks.{stack_of}
 use Rattle.aa_set_answers.specs.Answers.{base_name}
 use Rattle.aa_set_answers.specs.ProfileNames.{full_name_at}
 use Rattle.aa_set_answers.specs.RuleLines.{exec_text}

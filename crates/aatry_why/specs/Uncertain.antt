@@ -3,12 +3,12 @@ use Rattle.std.specs.Prelude.{ℕ, Bool, true, false, if◌then◌else◌, List,
 use Rattle.aa_bytes.specs.Bytes.{ampersand}
 use Rattle.aa_bytes.specs.Texts.{begins_with_byte}
 use Rattle.aa_decide.specs.Exec.{Asker}
-use Rattle.aa_decide_slots.specs.Confinement.{By, ByName, Confinement, Unconfined}
-use Rattle.aa_decide_slots.specs.Entries.{Loaded}
+use Rattle.aa_decide_ready.specs.Confinement.{By, ByName, Confinement, Unconfined}
+use Rattle.aa_decide_ready.specs.Entries.{Loaded}
 use Rattle.aa_explain.specs.Leads.{Lead, lead_of}
-use Rattle.aa_profile_access.specs.ExecWords.{row}
-use Rattle.aa_profile_access.specs.declared.exec_word.Destination.{Destination}
-use Rattle.aa_profile_access.specs.declared.exec_word.Destination.TheVariants as to
+use Rattle.aa_profile_data.specs.ExecWords.{row}
+use Rattle.aa_profile_data.specs.declared.exec_word.Destination.{Destination}
+use Rattle.aa_profile_data.specs.declared.exec_word.Destination.TheVariants as to
 use Rattle.aa_set_answers.specs.Answers.{who_asks}
 use Rattle.aa_set_answers.specs.Askers.{asker}
 use Rattle.aa_set_commands.specs.Question.{OfAccess, OfExec, Question}

@@ -5,11 +5,11 @@ use Rattle.serde_json.specs.Data.{Members}
 use Rattle.aa_bytes.specs.Bytes.{line_feed}
 use Rattle.aa_bytes.specs.Quoting.{written_text}
 use Rattle.aa_decide.specs.Exec.{Asker}
-use Rattle.aa_decide_audit.specs.declared.verdict.Answer.{Answer}
-use Rattle.aa_decide_audit.specs.declared.verdict.Answer.TheVariants.{Allow, Complain, Deny, Refuse}
-use Rattle.aa_decide_slots.specs.Confinement.{By, ByName, Confinement, Unconfined}
-use Rattle.aa_decide_slots.specs.Entries.{Loaded}
-use Rattle.aa_profile_access.specs.Request.{Request}
+use Rattle.aa_decide_rules.specs.declared.verdict.Answer.{Answer}
+use Rattle.aa_decide_rules.specs.declared.verdict.Answer.TheVariants.{Allow, Complain, Deny, Refuse}
+use Rattle.aa_decide_ready.specs.Confinement.{By, ByName, Confinement, Unconfined}
+use Rattle.aa_decide_ready.specs.Entries.{Loaded}
+use Rattle.aa_profile_data.specs.Request.{Request}
 use Rattle.aa_profile_parsing.specs.declared.language.Language.{Language}
 use Rattle.aa_set_answers.specs.Answers.{answered, lines_of, who_asks}
 use Rattle.aa_set_answers.specs.Askers.{asker}
@@ -17,11 +17,11 @@ use Rattle.aa_set_answers.specs.declared.answers.Answered.{Answered}
 use Rattle.aa_set_commands.specs.Question.{OfAccess, OfExec, Question}
 use Rattle.aa_set_commands.specs.Refusal.{name_of, number_of}
 use Rattle.aa_set_commands.specs.declared.refusal.Refusal.{Refusal}
-use Rattle.aa_set_lines.specs.Lines.{is_line_feed}
+use Rattle.aa_set_commands.specs.Lines.{is_line_feed}
 use Rattle.aatry_why.specs.Sources.{Sources, asked_origin, written_by}
-use Rattle.aaset_start.specs.Gathering.{names_of}
-use Rattle.aaset_start.specs.Known.{Known}
-use Rattle.aaset_start.specs.declared.readable.UnreadFault.{UnreadFault}
+use Rattle.aa_start.specs.Gathering.{names_of}
+use Rattle.aa_start.specs.Known.{Known}
+use Rattle.aa_start.specs.declared.readable.UnreadFault.{UnreadFault}
 use Rattle.aatry_folder.specs.Loadings.{AreTop, TopFile}
 use Rattle.aatry_folder.specs.PolicyFolders.{AreBelow, tried_names}
 use Rattle.aatry_folder.specs.Reports.{Report, failed_by}

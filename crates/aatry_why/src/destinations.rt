@@ -4,7 +4,7 @@ ghost use Rattle.std.specs.Prelude.{◌≡◌, IfOk, Some, option_and_then};
 ghost use Rattle.std.specs.Option.{option_copied, option_map};
 ghost use Rattle.aa_decide.specs.SeenExec.{seen_base, seen_stacked, seen_to};
 ghost use Rattle.aa_explain.specs.Leads.{seen_destination};
-ghost use Rattle.aa_profile_access.specs.Stacks.{parts_of};
+ghost use Rattle.aa_profile_data.specs.Stacks.{parts_of};
 ghost use Rattle.aa_set_answers.specs.Answers.{base_name};
 ghost use Rattle.aa_set_answers.specs.ProfileNames.{full_name_at};
 ghost use Rattle.aatry_why.specs.Transitions.{destination_base, destination_text, name_text, stack_base, stacked_text, started_text};

@@ -3,7 +3,7 @@
 ghost use Rattle.std.specs.Prelude.{◌≡◌, ◌++◌, IfOk, IfSome, OnOk};
 ghost use Rattle.std.specs.Option.{option_map};
 ghost use Rattle.aa_decide.specs.SeenExec.{IsIn, seen_asker};
-ghost use Rattle.aa_decide_slots.specs.Slots.{filled};
+ghost use Rattle.aa_decide_ready.specs.Slots.{filled};
 ghost use Rattle.aa_explain.specs.Candidates.{seen_candidates};
 ghost use Rattle.aatry_why.specs.How.{asked_candidates, asked_lines, confined_lines, confinement_of, how_lines, led_lines};
 ghost use Rattle.aatry_why.specs.How.{lines_or_none, none_attached, none_line, none_record, own_children, profile_lines};
@@ -15,7 +15,7 @@ use crate::transition::push_transition;
 use aa_bytes::{SharedBytes, begins_with};
 use aa_decide::{Asker, Confinement, IndexedSlots};
 use aa_explain::{Candidate, Lead, child_candidates, lead_of, profile_candidates};
-use aa_profile_access::Destination;
+use aa_profile_data::Destination;
 use aa_set_answers::find_asker;
 use aatry_report::{Form, Record, Teller, push_heading};
 use std::alloc::{AllocError, Global};

@@ -1,15 +1,15 @@
 //! The loaded name that may have been meant, where nobody of a name is loaded.
 
 ghost use Rattle.std.specs.Prelude.{◌≡◌, ◌++◌, IfOk, OnOk, map};
-ghost use Rattle.aatry_near.specs.Paths.{near_path};
+ghost use Rattle.aatry_words.specs.Paths.{near_path};
 ghost use Rattle.aatry_policy.specs.SeenProfiles.{seen_part};
 ghost use Rattle.aatry_why.specs.Meant.{full_names, meant_name, names_of};
 
 use aa_bytes::Sequence;
 use aa_set_commands::RefusalKind;
 use aa_set_manager::Manager;
-use aatry_near::near_path;
 use aatry_policy::{Part, parts_of};
+use aatry_words::near_path;
 use std::alloc::{AllocError, Global};
 
 // Puts the full names of parts behind others, none of them copied.

@@ -8,7 +8,7 @@ ghost use Rattle.aatry_why_lines.specs.Written.{seen_rules};
 
 use aa_decide::Asker;
 use aa_explain_rules::AskedRules;
-use aa_profile_access::cut_full_name;
+use aa_profile_data::cut_full_name;
 use aa_set_commands::Question;
 use aatry_folder::PolicyFiles;
 use aatry_policy::{Origin, file_of, origin_in, rule_places};

@@ -1,14 +1,14 @@
 //! What an answer could hang on of files that are left out, by the names that the target of a start names.
 
 ghost use Rattle.std.specs.Prelude.{◌≡◌, ◌++◌, OnOk, Some};
-ghost use Rattle.aa_decide_slots.specs.Slots.{filled};
-ghost use Rattle.aa_profile_access.specs.Stacks.{parts_of};
+ghost use Rattle.aa_decide_ready.specs.Slots.{filled};
+ghost use Rattle.aa_profile_data.specs.Stacks.{parts_of};
 ghost use Rattle.aatry_uncertain.specs.SeenHeads.{all_left_out};
 ghost use Rattle.aatry_why.specs.Targets.{name_alone, target_lines, told_of_name, told_of_names};
 
 use aa_bytes::SharedBytes;
 use aa_decide::{IndexedSlots, find_loaded};
-use aa_profile_access::{Destination, first_member, stack_of};
+use aa_profile_data::{Destination, first_member, stack_of};
 use aatry_report::Teller;
 use aatry_uncertain::{LeftOutHeads, push_unsure_names};
 use std::alloc::AllocError;

@@ -3,7 +3,7 @@
 ghost use Rattle.std.specs.Prelude.{◌≡◌, ◌++◌, IfSome, OnOk};
 ghost use Rattle.std.specs.Option.{option_map};
 ghost use Rattle.aa_decide.specs.SeenExec.{IsIn, seen_asker};
-ghost use Rattle.aa_decide_slots.specs.Slots.{filled};
+ghost use Rattle.aa_decide_ready.specs.Slots.{filled};
 ghost use Rattle.aa_explain.specs.Leads.{seen_lead};
 ghost use Rattle.aa_set_commands.specs.Question.{seen_question};
 ghost use Rattle.aatry_uncertain.specs.SeenHeads.{all_left_out};
@@ -15,7 +15,7 @@ use crate::targets::push_targets;
 use aa_bytes::{SharedBytes, begins_with_byte};
 use aa_decide::{Asker, Confinement, IndexedSlots};
 use aa_explain::{Lead, lead_of};
-use aa_profile_access::Destination;
+use aa_profile_data::Destination;
 use aa_set_answers::find_asker;
 use aa_set_commands::Question;
 use aatry_report::Teller;

@@ -2,11 +2,11 @@
 
 ghost use Rattle.std.specs.Prelude.{◌≡◌, ◌++◌, ◌⊎◌, Bool, Ok, IfErr, IfOk, OnOk, map, string_bytes};
 ghost use Rattle.aa_decide.specs.SeenExec.{seen_asker};
-ghost use Rattle.aa_profile_access.specs.SeenRequests.{request_of};
+ghost use Rattle.aa_profile_data.specs.SeenRequests.{request_of};
 ghost use Rattle.aa_set_answers.specs.Answers.{who_asks};
 ghost use Rattle.aa_set_answers.specs.Askers.{asker};
 ghost use Rattle.aa_set_commands.specs.Question.{IsWellFormed, seen_question};
-ghost use Rattle.aaset_start.specs.Gathering.{texts_of};
+ghost use Rattle.aa_start.specs.Gathering.{texts_of};
 ghost use Rattle.aatry_folder.specs.Reports.{failed_by, seen_report};
 ghost use Rattle.aatry_folder.specs.declared.fault.Fault.TheVariants as fault;
 ghost use Rattle.aatry_policy.specs.Folders.{left_out_note, loaded_in, origins_in, policy_in, seen_folder};
@@ -28,12 +28,12 @@ use crate::sources::{Sources, asked_origin, written_by};
 use crate::unasked::push_unasked;
 use crate::uncertain::push_uncertain;
 use aa_decide::{Asker, Confinement};
-use aa_profile_access::Request;
+use aa_profile_data::Request;
 use aa_profile_parsing::Language;
 use aa_set_answers::{Answered, find_asker};
 use aa_set_commands::{Question, Refusal, RefusalKind};
 use aa_set_manager::Manager;
-use aaset_start::FileSystem;
+use aa_start::FileSystem;
 use aatry_arguments::Asking;
 use aatry_folder::{Fault, Folders, PolicyFolder, Report, failed_by, policy_below};
 use aatry_policy::{LoadedFolder, load_folder};

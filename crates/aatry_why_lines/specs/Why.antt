@@ -1,7 +1,7 @@
 -- What is told of the rules behind an answer.
 use Rattle.std.specs.Prelude.{ℕ, Bool, if◌then◌else◌, List, [], ◌++◌, codes, flat_map, Option, None, Some}
-use Rattle.aa_profile_access.specs.Access.{EXEC, has}
-use Rattle.aa_profile_access.specs.Request.{ForFile, Request}
+use Rattle.aa_profile_data.specs.Access.{EXEC, has}
+use Rattle.aa_profile_data.specs.Request.{ForFile, Request}
 use Rattle.aa_profile_data.specs.declared.profile.Rule.{Rule}
 use Rattle.aa_explain_rules.specs.Leading.{leading_places}
 use Rattle.aa_bytes.specs.Texts.{is_empty}

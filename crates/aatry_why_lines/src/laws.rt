@@ -3,10 +3,10 @@
 ghost use Rattle.std.specs.Prelude.{◌==◌, ◌≡◌, ◌||◌, Bool, List, is_some, not};
 ghost use Rattle.aa_bytes.specs.Texts.{is_empty};
 ghost use Rattle.aa_decide_rules.specs.Verdict.{missing, verdict};
-ghost use Rattle.aa_decide_rules.specs.declared.verdict.Mediation.{Mediation};
+ghost use Rattle.aa_decide_rules.specs.declared.judgement.Mediation.{Mediation};
 ghost use Rattle.aa_explain_rules.specs.Logged.{is_denied};
 ghost use Rattle.aa_explain_rules.specs.Told.{told};
-ghost use Rattle.aa_profile_access.specs.Request.{Request};
+ghost use Rattle.aa_profile_data.specs.Request.{Request};
 ghost use Rattle.aa_profile_data.specs.declared.profile.Rule.{Rule};
 ghost use Rattle.aatry_why_lines.specs.Groups.{places_in};
 ghost use Rattle.aatry_why_lines.specs.declared.groups.Group.TheVariants.{Auditing};

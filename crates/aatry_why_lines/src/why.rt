@@ -1,7 +1,7 @@
 //! What is told of the rules behind an answer.
 
 ghost use Rattle.std.specs.Prelude.{◌≡◌, ◌++◌, IfOk, OnOk};
-ghost use Rattle.aa_profile_access.specs.SeenRequests.{request_of};
+ghost use Rattle.aa_profile_data.specs.SeenRequests.{request_of};
 ghost use Rattle.aatry_why_lines.specs.Why.{adding_lines, allowing_lines, auditing_lines, deciding, deciding_lines, lacking_lines, lines_of};
 ghost use Rattle.aatry_why_lines.specs.Why.{missing_lines, missing_or, nearest_lines, told_lines, why_lines};
 ghost use Rattle.aatry_why_lines.specs.Written.{seen_rules};
@@ -17,8 +17,7 @@ use aa_explain_rules::{
     AskedRules, ToldRule, leading_rules, missing_rule, near_rules, rules_in_the_way, script_rule,
     told_rules,
 };
-use aa_profile_access::{Perms, Request};
-use aa_profile_data::Rule;
+use aa_profile_data::{Perms, Request, Rule};
 use aatry_report::Teller;
 use bitflags::Flags;
 use std::alloc::{AllocError, Global};

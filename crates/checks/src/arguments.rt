@@ -1,6 +1,6 @@
 //! What the words of the program's start ask for.
 
-use aaset_start::{ArgFault, Plan, plan};
+use aa_start::{ArgumentFault, Plan, plan};
 use std::alloc::{AllocError, Global};
 
 // Arguments, and what they are answered with: a run over a folder with these names, one in complain mode, the help, the version, or nothing.
@@ -94,14 +94,14 @@ fn told(alloc: Global, plan: &Plan) -> Result<String, AllocError> {
     Ok(line)
 }
 
-fn is_wanted(alloc: Global, answered: &Result<Plan, ArgFault>, want: &str) -> bool {
+fn is_wanted(alloc: Global, answered: &Result<Plan, ArgumentFault>, want: &str) -> bool {
     match answered {
         Ok(plan) => told(alloc, plan).is_ok_and(|line| line.as_str() == want),
-        Err(ArgFault::Help(text)) => {
+        Err(ArgumentFault::Help(text)) => {
             want == "help" && HELP.split('|').all(|part| text.as_str().contains(part))
         }
-        Err(ArgFault::Version(text)) => want == "version" && text.as_str() == "aaset 0.1.0\n",
-        Err(ArgFault::Bad) => want == "bad",
+        Err(ArgumentFault::Version(text)) => want == "version" && text.as_str() == "aaset 0.1.0\n",
+        Err(ArgumentFault::Bad) => want == "bad",
         Err(_) => false,
     }
 }

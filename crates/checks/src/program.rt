@@ -1,8 +1,8 @@
 //! The whole program, over words, files and streams in memory.
 
 use aa_set::{FromRead, ToWrite};
+use aa_start::FileSystem;
 use aaset_program::start;
-use aaset_start::FileSystem;
 use std::alloc::{AllocError, Global};
 use std::io::{self, ErrorKind, Read};
 use std::test::Fail;
@@ -12,7 +12,7 @@ use std::test::Fail;
 struct Served;
 
 impl FileSystem for Served {
-    ghost use Rattle.aaset_start.specs.Known.{nothing_known};
+    ghost use Rattle.aa_start.specs.Known.{nothing_known};
 
     type File = &'static [u8];
 

@@ -1,7 +1,7 @@
 //! Rows of files that are gathered from a disk.
 
+use aa_start::{FileSystem, GatherFault, gather};
 use aa_text::Files;
-use aaset_start::{FileSystem, GatherFault, gather};
 use row_texts::{
     Part, RowError, Tally, number_of, put_each, put_word, put_words, question_of, split_at,
     words_of,
@@ -54,7 +54,7 @@ impl<'a> Disk<'a> {
 }
 
 impl<'a> FileSystem for Disk<'a> {
-    ghost use Rattle.aaset_start.specs.Known.{nothing_known};
+    ghost use Rattle.aa_start.specs.Known.{nothing_known};
 
     type File = Stored<'a>;
 

@@ -1,6 +1,6 @@
 //! Rows of the tables of capabilities, and of the domains and kinds of sockets.
 
-use aa_profile_tables::{
+use aa_profile_data::{
     capability_name, capability_number, domain_name, domain_number, kind_name, kind_number, type_of,
 };
 use row_texts::{

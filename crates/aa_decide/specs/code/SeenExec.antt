@@ -1,11 +1,11 @@
 -- Where a program is started, and what is answered, whatever the slots hold.
 use Rattle.std.specs.Prelude.{List, Option}
-use Rattle.aa_decide_slots.specs.Entries.{Loaded}
+use Rattle.aa_decide_ready.specs.Entries.{Loaded}
 use Rattle.aa_decide.specs.Exec.{Base, ExecAnswer, Started}
 use Rattle.aa_decide.specs.declared.asker.Asker.{Asker as FoundAsker}
-use Rattle.aa_decide_audit.specs.declared.exec_verdict.ExecTo.{ExecTo}
-use Rattle.aa_decide_audit.specs.declared.exec_verdict.ExecVerdict.{ExecVerdict}
-use Rattle.aa_decide_audit.specs.declared.exec_verdict.StackBase.{StackBase}
+use Rattle.aa_decide_rules.specs.declared.exec_verdict.ExecTo.{ExecTo}
+use Rattle.aa_decide_rules.specs.declared.exec_verdict.ExecVerdict.{ExecVerdict}
+use Rattle.aa_decide_rules.specs.declared.exec_verdict.StackBase.{StackBase}
 use Rattle.aa_decide.specs.SeenExec.{IsAnswer, IsBase, IsDestination, IsIn}
 
 -- what the code found is where the definitions lead, whatever the slots hold but for the entry of who asks

@@ -1,7 +1,7 @@
 -- The ranks of slots.
 use Rattle.std.specs.Prelude.{ℕ, List, Option, None, Some}
 use Rattle.aa_decide.specs.Attachment.{entry_rank}
-use Rattle.aa_decide_slots.specs.Entries.{Loaded}
+use Rattle.aa_decide_ready.specs.Entries.{Loaded}
 
 -- the rank of what a slot holds; nothing has rank 0
 abbrev pub slot_rank : List ℕ → Option Loaded → ℕ

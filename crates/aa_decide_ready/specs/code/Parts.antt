@@ -1,6 +1,6 @@
 -- What is made ready of a profile and of each of its children: automata, and where file rules stand.
 use Rattle.std.specs.Prelude.{◌≡◌, ℕ, List, [], ◌∷◌, IfSome, Option}
-use Rattle.aa_glob_automaton.specs.Automata.{IsAutomatonOf}
+use Rattle.aa_glob.specs.Automata.{IsAutomatonOf}
 use Rattle.aa_profile_data.specs.declared.profile.Child.{Child}
 use Rattle.aa_profile_data.specs.declared.profile.Profile.{Profile}
 use Rattle.aa_profile_data.specs.declared.profile.Rule.{Rule}

@@ -4,7 +4,7 @@ use Rattle.std.specs.List.{All, list_any}
 use Rattle.std.specs.List.Sorted.{IsStrictlyIncreasing}
 use Rattle.aa_explain_paths.specs.Meant.{unasked_patterns}
 use Rattle.aa_explain_paths.specs.Telling.{classes_among}
-use Rattle.aa_profile_access.specs.Access.{APPEND, EXEC, LINK, LOCK, MAP, READ, WRITE}
+use Rattle.aa_profile_data.specs.Access.{APPEND, EXEC, LINK, LOCK, MAP, READ, WRITE}
 use Rattle.aa_profile_data.specs.FileRules.{file_patterns}
 use Rattle.aa_profile_data.specs.Matching.{AreMatchingRules}
 use Rattle.aa_profile_data.specs.declared.profile.FileRule.{FileRule}

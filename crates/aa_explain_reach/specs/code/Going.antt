@@ -5,13 +5,13 @@ use Rattle.std.specs.Option.{option_map}
 use Rattle.aa_decide.specs.Exec.{Asker}
 use Rattle.aa_decide.specs.SeenExec.{IsIn, seen_asker, seen_to}
 use Rattle.aa_decide.specs.declared.asker.Asker.{Asker as FoundAsker}
-use Rattle.aa_decide_audit.specs.declared.exec_verdict.ExecTo.{ExecTo}
-use Rattle.aa_decide_slots.specs.Entries.{Loaded}
-use Rattle.aa_decide_slots.specs.Slots.{filled}
-use Rattle.aa_explain_starts.specs.Patterns.{start_patterns}
-use Rattle.aa_explain_starts.specs.Places.{same_to}
-use Rattle.aa_explain_starts.specs.Starts.{IsStart}
-use Rattle.aa_explain_starts.specs.declared.start.Start.{Start}
+use Rattle.aa_decide_rules.specs.declared.exec_verdict.ExecTo.{ExecTo}
+use Rattle.aa_decide_ready.specs.Entries.{Loaded}
+use Rattle.aa_decide_ready.specs.Slots.{filled}
+use Rattle.aa_explain_reach.specs.Patterns.{start_patterns}
+use Rattle.aa_explain_reach.specs.Places.{same_to}
+use Rattle.aa_explain_reach.specs.Starts.{IsStart}
+use Rattle.aa_explain_reach.specs.declared.start.Start.{Start}
 use Rattle.aa_glob_paths.specs.TooMany.{AreMoreTextsThan}
 use Rattle.aa_explain_reach.specs.Reach.{AreApart, LeadsAmong}
 use Rattle.aa_explain_reach.specs.declared.reached.Reached.{Reached}

@@ -1,7 +1,7 @@
 -- Whether two sides say the same of a path, as a test.
 use Rattle.std.specs.Prelude.{ℕ, Bool, false, true, not, ◌&&◌, ◌||◌, List}
 use Rattle.std.specs.List.{list_any}
-use Rattle.aa_decide_exec_rules.specs.Choices.{Choice, Denied, Leads, Missing, choice}
+use Rattle.aa_decide_rules.specs.Choices.{Choice, Denied, Leads, Missing, choice}
 use Rattle.aa_explain_changes.specs.Changes.{change_between, is_change}
 use Rattle.aa_explain_changes.specs.Sides.{Side, side_verdict}
 use Rattle.aa_explain_paths.specs.Claims.{single_letters}

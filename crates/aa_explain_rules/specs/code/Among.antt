@@ -2,7 +2,7 @@
 use Rattle.std.specs.Prelude.{ℕ, Bool, false, if◌then◌else◌, List, [], ◌∷◌, Option, None, Some, slice_get}
 use Rattle.std.specs.List.{filter, list_any}
 use Rattle.aa_decide_rules.specs.Verdict.{applies}
-use Rattle.aa_profile_access.specs.Request.{Request}
+use Rattle.aa_profile_data.specs.Request.{Request}
 use Rattle.aa_profile_data.specs.declared.profile.Rule.{Rule}
 use Rattle.aa_explain_rules.specs.Told.{told_rule}
 use Rattle.aa_explain_rules.specs.declared.told.ToldRule.{ToldRule}

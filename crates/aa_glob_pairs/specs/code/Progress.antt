@@ -2,7 +2,7 @@
 use Rattle.std.specs.Prelude.{◌≡◌, ◌⊎◌, ℕ, ◌+◌, ◌<◌, ◌≤◌, List, length, replicate, take, Some, All, slice_index_or}
 use Rattle.aa_glob_pairs.specs.Clashes.{IsAtMost}
 use Rattle.aa_glob_pairs.specs.Pairs.{Classed, ClashOf, Follows, MeetsAt, Met, states_of}
-use Rattle.aa_glob_waiting.specs.Waiting.{Ordered, row_at, Waits}
+use Rattle.aa_glob_pairs.specs.Waiting.{Ordered, row_at, Waits}
 use Rattle.aa_glob_pairs.specs.declared.meeting.Meeting.{Meeting}
 
 -- no state was looked at

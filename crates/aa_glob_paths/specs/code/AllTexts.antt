@@ -3,10 +3,10 @@ use Rattle.std.specs.Prelude.{◌≢◌, ℕ, ◌<◌, ◌≤◌, Bool, not, ◌
 use Rattle.std.specs.List.{list_any}
 use Rattle.aa_glob_nfa.specs.Graphs.{AreBytes, Graph, IsFound}
 use Rattle.aa_glob_pairs.specs.Graphs.{class_at}
-use Rattle.aa_glob_sets.specs.Settled.{passed_over_class}
-use Rattle.aa_glob_sets.specs.Wanted.{wanted_class}
-use Rattle.aa_glob_sets.specs.Found.{FoundSet, IsFoundBehind, set_at}
-use Rattle.aa_glob_sets.specs.Laws.{EndIn}
+use Rattle.aa_glob_paths.specs.Settled.{passed_over_class}
+use Rattle.aa_glob_paths.specs.Wanted.{wanted_class}
+use Rattle.aa_glob_paths.specs.Found.{FoundSet, IsFoundBehind, set_at}
+use Rattle.aa_glob_paths.specs.SetLaws.{EndIn}
 use Rattle.aa_glob_paths.specs.AllPaths.{AreTold, HasPlaces}
 use Rattle.aa_glob_paths.specs.declared.outcome.Outcome.{Outcome}
 

@@ -1,8 +1,8 @@
 -- What is remembered of runs: states that live together at a place, and which follow behind a byte.
 use Rattle.std.specs.Prelude.{◌≡◌, ℕ, suc, ◌+◌, ◌*◌, ◌/◌, ◌<◌, List, [], length, map, replicate, reverse, set, take, All, slice_index_or}
 use Rattle.aa_glob_nfa.specs.Graphs.{Graph}
-use Rattle.aa_glob_front.specs.Fronts.{IsLive}
-use Rattle.aa_glob_front.specs.Runs.{HasRun, IsWhole, LeadsTo}
+use Rattle.aa_glob_nfa.specs.Fronts.{IsLive}
+use Rattle.aa_glob_nfa.specs.Runs.{HasRun, IsWhole, LeadsTo}
 use Rattle.aa_glob_run.specs.declared.memo.Memo.{Memo}
 
 -- how many lists are remembered at most

@@ -10,7 +10,7 @@ use Rattle.aa_profile_parsing.specs.declared.language.Language.{Language}
 use Rattle.aa_profile_parsing.specs.Tokens.{place_of}
 use Rattle.aa_profile_rules.specs.Rules.{Rule as WrittenRule}
 use Rattle.aa_profile.specs.Conflicts.{conflict_in_members, conflict_in_rule, conflict_in_rules}
-use Rattle.aa_profile_making.specs.Profiles.{rules_of, rules_of_members, rules_of_rule}
+use Rattle.aa_profile.specs.Profiles.{rules_of, rules_of_members, rules_of_rule}
 
 -- What is told of a written rule, where the first conflict among its rules and those behind them stands so many rules on, if there is one: its
 -- pattern, if it stands in this one, and else how many rules on it stands behind this one.

@@ -1,6 +1,6 @@
 -- What the code gives for what comes next in a row.
 use Rattle.std.specs.Prelude.{◌≡◌, List, Ok}
-use Rattle.aa_text_splicing.specs.Splicing.{Placed}
+use Rattle.aa_text_tokens.specs.Splicing.{Placed}
 use Rattle.aa_profile_parsing.specs.Parts.{Part}
 use Rattle.aa_profile_parsing.specs.SeenTokens.{seen_tokens}
 use Rattle.aa_profile_grammar.specs.code.Seen.{seen_next}

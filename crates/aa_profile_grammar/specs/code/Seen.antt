@@ -1,6 +1,6 @@
 -- What the code's names are as the definitions see them, and what comes next in a row.
 use Rattle.std.specs.Prelude.{Bool, List, Vec, false, map, true}
-use Rattle.aa_text_splicing.specs.SeenTokens.{seen_spliced}
+use Rattle.aa_text_tokens.specs.SeenSplicedTokens.{seen_spliced}
 use Rattle.aa_profile_grammar.specs.Heads.{Named as SeenNamed}
 use Rattle.aa_profile_grammar.specs.declared.heads.Named.{Named}
 use Rattle.aa_profile_grammar.specs.declared.sequence.Next.{Next}

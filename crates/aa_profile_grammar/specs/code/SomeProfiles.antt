@@ -1,6 +1,6 @@
 -- A file as its preamble, and the profiles behind it.
 use Rattle.std.specs.Prelude.{if◌then◌else◌, List, None, Result, Ok, Err}
-use Rattle.aa_text_splicing.specs.Splicing.{Placed}
+use Rattle.aa_text_tokens.specs.Splicing.{Placed}
 use Rattle.aa_bytes.specs.Texts.{is_empty}
 use Rattle.aa_profile_parsing.specs.GrammarError.{told}
 use Rattle.aa_profile_parsing.specs.declared.fault.GrammarRefusal.TheVariants.{NoProfile}

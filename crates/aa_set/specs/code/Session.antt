@@ -4,12 +4,12 @@ use Rattle.std.specs.Prelude.{◌≡◌, ℕ, ◌+◌, Bool, List, [], ◌∷◌
 use Rattle.std.specs.List.{flat_map, slice_split}
 use Rattle.aa_text_files.specs.Files.{File}
 use Rattle.aa_set_manager.specs.Manager.{Managed}
-use Rattle.aa_set_lines.specs.Lines.{is_line_feed, whole_lines}
+use Rattle.aa_set_commands.specs.Lines.{is_line_feed, whole_lines}
 use Rattle.aa_set.specs.Reply.{reply_text}
 use Rattle.aa_set_answers.specs.Answers.{line_with}
 use Rattle.aa_set.specs.Run.{HoldsOfRead, IsAnswered, IsAnsweredSoFar, IsFrontAnswered, IsLeftAnswered, replies_to, after_lines, SumsUp}
-use Rattle.aa_set_lines.specs.Streams.{AppendsFront, WritesBehind}
-use Rattle.aa_set_lines.specs.Limits.{longest_line}
+use Rattle.aa_set_commands.specs.Streams.{AppendsFront, WritesBehind}
+use Rattle.aa_set_commands.specs.Limits.{longest_line}
 use Rattle.aa_set.specs.declared.session.Session.{Session}
 use Rattle.aa_set.specs.declared.session.Summary.{Summary}
 

@@ -1,9 +1,9 @@
 -- The texts that tell what the code answered, by slots.
 use Rattle.std.specs.Prelude.{ℕ, Bool, List, [], Option, None, Some}
-use Rattle.aa_decide_slots.specs.Entries.{Loaded}
+use Rattle.aa_decide_ready.specs.Entries.{Loaded}
 use Rattle.aa_decide.specs.SeenExec.{seen_base, seen_to}
-use Rattle.aa_decide_audit.specs.declared.exec_verdict.ExecVerdict.{ExecVerdict}
-use Rattle.aa_decide_audit.specs.declared.exec_verdict.StackBase.{StackBase}
+use Rattle.aa_decide_rules.specs.declared.exec_verdict.ExecVerdict.{ExecVerdict}
+use Rattle.aa_decide_rules.specs.declared.exec_verdict.StackBase.{StackBase}
 use Rattle.aa_set_answers.specs.Answers.{base_name, stack_text, started_text}
 
 -- under what stack a program runs; nothing, where the slot of what it is on isn't filled

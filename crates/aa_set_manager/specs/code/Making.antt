@@ -1,6 +1,6 @@
 -- What becomes of a journal of slots where a change was asked for.
 use Rattle.std.specs.Prelude.{◌≡◌, List, length, Option, Result, Ok, Err}
-use Rattle.aa_decide_slots.specs.Entries.{Loaded}
+use Rattle.aa_decide_ready.specs.Entries.{Loaded}
 use Rattle.aa_history.specs.Machine.{Kept, committed}
 use Rattle.aa_set_commands.specs.Refusal.{plain}
 use Rattle.aa_set_commands.specs.declared.refusal.Refusal.{Refusal}

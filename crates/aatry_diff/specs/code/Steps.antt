@@ -1,6 +1,6 @@
 -- What is found of one question, and what is told of folders by what is found.
 use Rattle.std.specs.Prelude.{ℕ, Bool, ◌==◌, ◌&&◌, if◌then◌else◌, List, [], ◌∷◌, ◌++◌, Option, None, Some, length}
-use Rattle.aa_decide_slots.specs.Entries.{Loaded}
+use Rattle.aa_decide_ready.specs.Entries.{Loaded}
 use Rattle.aatry_changes.specs.PartChanges.{changed_count}
 use Rattle.aatry_diff.specs.Comparing.{parts_text}
 use Rattle.aatry_diff.specs.Differing.{Difference, difference_of, differs}

@@ -1,6 +1,6 @@
 -- The parts of what a slot holds, and the origins that are left behind it.
 use Rattle.std.specs.Prelude.{List, [], Option, None, Some}
-use Rattle.aa_decide_slots.specs.Entries.{Loaded}
+use Rattle.aa_decide_ready.specs.Entries.{Loaded}
 use Rattle.aatry_policy.specs.Parts.{Part, behind_first, first_of, profile_parts}
 use Rattle.aatry_policy.specs.declared.origins.Origin.{Origin}
 

@@ -1,6 +1,6 @@
 //! What the words ask for with which the program was started.
 
-use aaset_start::plan;
+use aa_start::plan;
 use std::alloc::{AllocError, Global};
 
 // The words, as the system hands them over.

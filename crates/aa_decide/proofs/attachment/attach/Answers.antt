@@ -1,10 +1,10 @@
 use Rattle.std.proofs.Common.{◌≡◌, Some, None, ap, map, subst, sym, ◌∙◌}
 use Rattle.std.specs.Prelude.{option_and_then, slice_get}
-use Rattle.aa_decide_attachment.specs.StandingOut.{standing_out}
+use Rattle.aa_decide_rules.specs.StandingOut.{standing_out}
 use Rattle.aa_decide.specs.Attachment.{attached}
-use Rattle.aa_decide_slots.specs.Slots.{Holds, filled}
+use Rattle.aa_decide_ready.specs.Slots.{Holds, filled}
 use Rattle.aa_decide.specs.code.SlotRanks.{slot_rank}
-use Rattle.aa_decide_slots.specs.Slots.{entry_at}
+use Rattle.aa_decide_ready.specs.Slots.{entry_at}
 use Rattle.aa_decide.proofs.SlotLemmas.{attached-among}
 use Rattle.aa_decide.proofs.attachment.attach.Goals as goal
 

@@ -1,5 +1,5 @@
 use Rattle.std.proofs.Common.{◌≡◌, ◌∙◌, ◌<◌, ap, get_or, length, sym}
-use Rattle.aa_decide_attachment.specs.Ranks.{best_rank}
+use Rattle.aa_decide_rules.specs.Ranks.{best_rank}
 use Rattle.aa_decide.proofs.ChildLemmas.{ranks-more}
 use Rattle.aa_decide.proofs.attachment.child_ranks.Goals as goal
 

@@ -1,5 +1,5 @@
 use Rattle.std.proofs.Common.{◌≡◌, map, take}
-use Rattle.aa_decide_attachment.specs.Ranks.{best_rank}
+use Rattle.aa_decide_rules.specs.Ranks.{best_rank}
 use Rattle.aa_decide.proofs.attachment.child_ranks.Given as goal
 
 abbrev pub invariant-loop-place : goal.invariant-loop-place

@@ -1,5 +1,5 @@
 use Rattle.std.proofs.Common.{rules}
-use Rattle.aa_decide_slots.specs.Slots.{filled}
+use Rattle.aa_decide_ready.specs.Slots.{filled}
 use Rattle.aa_decide.specs.SeenExec.{seen_asker}
 use Rattle.aa_decide.proofs.SeenLemmas.{seen_carried, seen_nowhere}
 use Rattle.aa_decide.proofs.execution.carried_out.Goals as goal

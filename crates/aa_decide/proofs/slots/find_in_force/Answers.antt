@@ -1,7 +1,7 @@
 use Rattle.std.proofs.Common.{ap, sym, ◌∙◌}
 use Rattle.aa_decide.proofs.SlotLemmas.{first-in-force, none-in-force}
-use Rattle.aa_decide_slots.specs.Entries.{is_in_force}
-use Rattle.aa_decide_slots.specs.Slots.{filled}
+use Rattle.aa_decide_ready.specs.Entries.{is_in_force}
+use Rattle.aa_decide_ready.specs.Slots.{filled}
 use Rattle.aa_decide.proofs.slots.find_in_force.Goals as goal
 
 pub returns-in-None-clause-found : goal.returns-in-None-clause-found

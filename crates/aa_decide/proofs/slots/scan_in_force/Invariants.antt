@@ -1,6 +1,6 @@
 use Rattle.std.proofs.Common.{◌≡◌, drop}
 use Rattle.aa_decide.specs.Exec.{named_in_force}
-use Rattle.aa_decide_slots.specs.Slots.{filled}
+use Rattle.aa_decide_ready.specs.Slots.{filled}
 use Rattle.aa_decide.proofs.slots.scan_in_force.Given as goal
 
 -- the profile is in none of the slots so far

@@ -1,7 +1,7 @@
 use Rattle.std.proofs.Common.{◌≡◌, length}
 use Rattle.aa_decide.specs.Exec.{are_in_force}
-use Rattle.aa_decide_slots.specs.Slots.{filled}
-use Rattle.aa_profile_access.specs.Stacks.{parts_of}
+use Rattle.aa_decide_ready.specs.Slots.{filled}
+use Rattle.aa_profile_data.specs.Stacks.{parts_of}
 use Rattle.aa_decide.proofs.stacks.are_in_force.Given as goal
 
 -- the rest decides

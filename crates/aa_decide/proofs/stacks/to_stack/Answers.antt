@@ -1,10 +1,10 @@
 use Rattle.std.proofs.Common.{◌≡◌, rules, true}
 use Rattle.aa_decide.specs.Exec.{are_in_force, base_of}
 use Rattle.aa_decide.specs.SeenExec.{seen_asker}
-use Rattle.aa_decide_slots.specs.Slots.{filled}
-use Rattle.aa_profile_access.specs.ExecWords.{row}
-use Rattle.aa_profile_access.specs.SeenStacks.{seen_stack}
-use Rattle.aa_profile_access.specs.Stacks.{parts_of}
+use Rattle.aa_decide_ready.specs.Slots.{filled}
+use Rattle.aa_profile_data.specs.ExecWords.{row}
+use Rattle.aa_profile_data.specs.SeenStacks.{seen_stack}
+use Rattle.aa_profile_data.specs.Stacks.{parts_of}
 use Rattle.aa_decide.proofs.SeenLemmas.{seen_on_base}
 use Rattle.aa_decide.proofs.stacks.to_stack.Goals as goal
 

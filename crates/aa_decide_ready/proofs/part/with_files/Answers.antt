@@ -2,7 +2,7 @@ use Rattle.std.proofs.Common.{◌≡◌, List, ℕ, ◌++◌, ◌∷◌, ◌∙�
 use Rattle.std.specs.Prelude.{get_or}
 use Rattle.std.proofs.Math.Seq.{take-length}
 use Rattle.std.proofs.lemmas.List.{take_more}
-use Rattle.aa_glob_automaton.specs.Built.{IsBuilt}
+use Rattle.aa_glob.specs.Built.{IsBuilt}
 use Rattle.aa_profile_data.specs.FileRules.{file_patterns}
 use Rattle.aa_decide_ready.proofs.PartLemmas.{file_patterns-append}
 use Rattle.aa_decide_ready.proofs.part.with_files.Goals as goal

@@ -1,5 +1,5 @@
 use Rattle.std.proofs.Common.{List, ℕ, take, ◌++◌}
-use Rattle.aa_glob_automaton.specs.Built.{IsBuilt}
+use Rattle.aa_glob.specs.Built.{IsBuilt}
 use Rattle.aa_profile_data.specs.FileRules.{file_patterns}
 use Rattle.aa_decide_ready.proofs.part.with_files.Given as goal
 

@@ -1,6 +1,6 @@
 use Rattle.aa_decide_rules.proofs.VerdictLemmas.{verdict-allow, verdict-complain, verdict-deny, verdict-order}
 use Rattle.std.proofs.Common.{ap}
-use Rattle.aa_decide_audit.specs.LogLines.{log_line}
+use Rattle.aa_decide_rules.specs.LogLines.{log_line}
 use Rattle.aa_decide_rules.proofs.laws.what_rules_decide.Goals as goal
 
 pub returns-clause-complain_mode_lets_through_and_logs : goal.returns-clause-complain_mode_lets_through_and_logs

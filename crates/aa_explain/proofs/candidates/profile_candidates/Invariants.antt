@@ -1,5 +1,5 @@
 use Rattle.std.proofs.Common.{◌≡◌, ◌++◌, length}
-use Rattle.aa_decide_slots.specs.Slots.{filled}
+use Rattle.aa_decide_ready.specs.Slots.{filled}
 use Rattle.aa_explain.specs.Candidates.{profile_candidates, seen_candidates}
 use Rattle.aa_explain.proofs.candidates.profile_candidates.Given as goal
 

@@ -1,5 +1,5 @@
 use Rattle.std.proofs.Common.{◌∙◌, ap}
-use Rattle.aa_decide_exec_rules.specs.Choices.{choice}
+use Rattle.aa_decide_rules.specs.Choices.{choice}
 use Rattle.aa_explain.proofs.StartLemmas.{lets-start, not-started, starts-under}
 use Rattle.aa_explain.proofs.laws.what_starts_with_a_missing_rule.Goals as goal
 

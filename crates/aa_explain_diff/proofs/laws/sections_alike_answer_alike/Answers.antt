@@ -1,5 +1,5 @@
 use Rattle.std.proofs.Common.{◌∙◌, ap}
-use Rattle.aa_decide_exec_rules.specs.Choices.{choice}
+use Rattle.aa_decide_rules.specs.Choices.{choice}
 use Rattle.aa_decide_rules.specs.Verdict.{verdict}
 use Rattle.aa_explain_diff.proofs.AlikeLemmas.{one-head, one-rules}
 use Rattle.aa_explain_diff.proofs.laws.sections_alike_answer_alike.Goals as goal

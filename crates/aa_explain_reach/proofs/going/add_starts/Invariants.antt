@@ -1,5 +1,5 @@
 use Rattle.std.proofs.Common.{◌≡◌, ◌++◌, List}
-use Rattle.aa_explain_starts.specs.declared.start.Start.{Start}
+use Rattle.aa_explain_reach.specs.declared.start.Start.{Start}
 use Rattle.aa_explain_reach.specs.code.Going.{AddsNodes}
 use Rattle.aa_explain_reach.proofs.going.add_starts.Given as goal
 

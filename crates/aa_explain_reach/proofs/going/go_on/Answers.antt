@@ -1,7 +1,7 @@
 use Rattle.std.specs.Option.{option_map}
 use Rattle.std.proofs.lemmas.Result.{on_ok_weaker}
 use Rattle.aa_decide.specs.SeenExec.{seen_asker}
-use Rattle.aa_explain_starts.specs.Starts.{AreStartsOf}
+use Rattle.aa_explain_reach.specs.Starts.{AreStartsOf}
 use Rattle.aa_explain_reach.proofs.GoingLemmas.{goes-known, goes-unknown}
 use Rattle.aa_explain_reach.proofs.going.go_on.Goals as goal
 

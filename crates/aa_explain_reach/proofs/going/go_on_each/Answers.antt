@@ -3,7 +3,7 @@ use Rattle.std.specs.Option.{option_map}
 use Rattle.aa_decide.specs.SeenExec.{seen_asker}
 use Rattle.aa_explain_reach.specs.code.Going.{AreIn, seen_starters}
 use Rattle.aa_explain_reach.proofs.GoingLemmas.{goes-then}
-use Rattle.aa_explain_starts.proofs.StandLemmas.{split-first}
+use Rattle.aa_explain_reach.proofs.StandLemmas.{split-first}
 use Rattle.aa_glob_nfa.proofs.ListLemmas.{Contains-later}
 use Rattle.aa_explain_reach.proofs.going.go_on_each.Goals as goal
 

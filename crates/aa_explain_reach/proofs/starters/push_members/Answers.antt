@@ -1,9 +1,9 @@
 use Rattle.std.proofs.Common.{◌≡◌, ◌∙◌, ◌++◌, ◌∷◌, ap, append_assoc, sym}
 use Rattle.std.specs.Option.{option_map}
-use Rattle.aa_decide_slots.specs.Slots.{filled}
+use Rattle.aa_decide_ready.specs.Slots.{filled}
 use Rattle.aa_explain_reach.specs.Starters.{alone, member_asker, member_starters}
 use Rattle.aa_explain_reach.proofs.StarterLemmas.{appends-then}
-use Rattle.aa_profile_access.specs.Stacks.{parts_of, parts_of_rest}
+use Rattle.aa_profile_data.specs.Stacks.{parts_of, parts_of_rest}
 use Rattle.aa_explain_reach.proofs.starters.push_members.Goals as goal
 
 pub loop-more-preserved : goal.loop-more-preserved

@@ -1,8 +1,8 @@
 use Rattle.std.proofs.Common.{◌≡◌, ◌++◌, List, length}
 use Rattle.std.specs.Prelude.{Option}
 use Rattle.aa_decide.specs.Exec.{Asker}
-use Rattle.aa_decide_slots.specs.Slots.{filled}
-use Rattle.aa_profile_access.specs.Stacks.{parts_of}
+use Rattle.aa_decide_ready.specs.Slots.{filled}
+use Rattle.aa_profile_data.specs.Stacks.{parts_of}
 use Rattle.aa_explain_reach.specs.Starters.{member_starters}
 use Rattle.aa_explain_reach.specs.code.Going.{Appends}
 use Rattle.aa_explain_reach.proofs.starters.push_members.Given as goal

@@ -1,10 +1,10 @@
 use Rattle.std.proofs.Common.{subst, sym}
 use Rattle.std.proofs.lemmas.Result.{on_ok_weaker}
-use Rattle.aa_decide_slots.specs.Slots.{filled}
+use Rattle.aa_decide_ready.specs.Slots.{filled}
 use Rattle.aa_explain_reach.specs.Starters.{member_starters, stand_starters, starters_at}
 use Rattle.aa_explain_reach.specs.code.Going.{Appends}
 use Rattle.aa_explain_reach.proofs.StarterLemmas.{appends-then}
-use Rattle.aa_profile_access.specs.Stacks.{parts_of}
+use Rattle.aa_profile_data.specs.Stacks.{parts_of}
 use Rattle.aa_explain_reach.proofs.starters.push_starters.Goals as goal
 
 pub returns-in-Unconfined : goal.returns-in-Unconfined

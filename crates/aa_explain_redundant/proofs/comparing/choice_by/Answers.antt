@@ -1,7 +1,7 @@
 use Rattle.std.proofs.Common.{◌≡◌, ◌∙◌, ap, length, subst, sym}
 use Rattle.std.specs.List.Sorted.{IsStrictlyIncreasing}
 use Rattle.std.proofs.lemmas.Result.{IfOk-weaker}
-use Rattle.aa_decide_exec_rules.specs.Choices.{choice}
+use Rattle.aa_decide_rules.specs.Choices.{choice}
 use Rattle.aa_profile_data.specs.Matching.{AreMatchingRules}
 use Rattle.aa_explain_redundant.proofs.CopyLemmas.{copies-match, places-rise}
 use Rattle.aa_explain_redundant.specs.code.Copies.{places_to}

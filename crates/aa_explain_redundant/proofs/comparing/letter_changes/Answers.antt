@@ -2,8 +2,8 @@ use Rattle.std.proofs.Common.{◌≡◌, ◌∙◌, ap, false}
 use Rattle.aa_explain_changes.specs.Changes.{change_between, is_change}
 use Rattle.aa_explain_changes.specs.Sides.{side_verdict}
 use Rattle.aa_decide_rules.specs.Verdict.{verdict}
-use Rattle.aa_decide_rules.specs.declared.verdict.Mediation.TheVariants.{Enforcing}
-use Rattle.aa_profile_access.specs.Request.{ForFile}
+use Rattle.aa_decide_rules.specs.declared.judgement.Mediation.TheVariants.{Enforcing}
+use Rattle.aa_profile_data.specs.Request.{ForFile}
 use Rattle.aa_explain_redundant.specs.code.Comparing.{all_side, left_side}
 use Rattle.aa_explain_redundant.proofs.comparing.letter_changes.Goals as goal
 

@@ -1,5 +1,5 @@
 use Rattle.std.proofs.Common.{◌≡◌, ◌+◌, ◌++◌, length}
-use Rattle.aa_profile_access.specs.SeenRequests.{request_of}
+use Rattle.aa_profile_data.specs.SeenRequests.{request_of}
 use Rattle.aa_explain_rules.specs.Asked.{concerned, concerns}
 use Rattle.aa_explain_rules.specs.Told.{places_where}
 use Rattle.aa_explain_rules.proofs.asked.concerned_listed.Given as goal

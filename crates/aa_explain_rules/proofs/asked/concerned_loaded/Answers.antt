@@ -1,5 +1,5 @@
 use Rattle.std.proofs.Common.{◌∙◌, ap, sym}
-use Rattle.aa_profile_access.specs.SeenRequests.{request_of}
+use Rattle.aa_profile_data.specs.SeenRequests.{request_of}
 use Rattle.aa_explain_rules.specs.Asked.{concerned}
 use Rattle.aa_explain_rules.proofs.AmongLemmas.{found-concerned, if-both}
 use Rattle.aa_explain_rules.proofs.asked.concerned_loaded.Goals as goal

@@ -1,6 +1,6 @@
 use Rattle.std.proofs.Common.{◌≡◌, ◌∙◌, ap}
 use Rattle.std.proofs.lemmas.Result.{IfOk-weaker}
-use Rattle.aa_profile_access.specs.SeenRequests.{request_of}
+use Rattle.aa_profile_data.specs.SeenRequests.{request_of}
 use Rattle.aa_profile_data.specs.Picked.{picked}
 use Rattle.aa_explain_rules.specs.Asked.{concerned, rules_of}
 use Rattle.aa_explain_rules.specs.InTheWay.{is_in_the_way}

@@ -1,8 +1,8 @@
 use Rattle.std.proofs.Common.{◌≡◌, ◌∙◌, ap, false, sym, true}
 use Rattle.std.proofs.lemmas.Result.{IfOk-weaker}
-use Rattle.aa_decide_exec_rules.specs.Choices.{denies, dominates}
-use Rattle.aa_profile_access.specs.Access.{EXEC}
-use Rattle.aa_profile_access.specs.Request.{ForFile}
+use Rattle.aa_decide_rules.specs.Choices.{denies, dominates}
+use Rattle.aa_profile_data.specs.Access.{EXEC}
+use Rattle.aa_profile_data.specs.Request.{ForFile}
 use Rattle.aa_explain_rules.specs.Asked.{concerned, rules_of}
 use Rattle.aa_explain_rules.specs.Leading.{highest_that, says}
 use Rattle.aa_explain_rules.specs.code.Among.{among, some_among}

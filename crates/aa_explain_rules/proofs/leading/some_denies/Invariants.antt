@@ -1,5 +1,5 @@
 use Rattle.std.proofs.Common.{◌≡◌, false, length}
-use Rattle.aa_decide_exec_rules.specs.Choices.{denies}
+use Rattle.aa_decide_rules.specs.Choices.{denies}
 use Rattle.aa_explain_rules.specs.Leading.{says}
 use Rattle.aa_explain_rules.specs.code.Among.{some_among}
 use Rattle.aa_explain_rules.proofs.leading.some_denies.Given as goal

@@ -1,5 +1,5 @@
 use Rattle.std.proofs.Common.{◌≡◌, length}
-use Rattle.aa_profile_access.specs.SeenRequests.{request_of}
+use Rattle.aa_profile_data.specs.SeenRequests.{request_of}
 use Rattle.aa_profile_data.specs.Picked.{picked}
 use Rattle.aa_decide_rules.specs.Verdict.{allows, denied, denies, granted, with_covered}
 use Rattle.aa_explain_rules.proofs.missing.lacked.Given as goal

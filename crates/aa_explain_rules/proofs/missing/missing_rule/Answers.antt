@@ -1,7 +1,7 @@
 use Rattle.std.proofs.Common.{◌≡◌, ◌∙◌, ap, false, sym, true}
 use Rattle.std.specs.Prelude.{◌==◌}
 use Rattle.std.proofs.lemmas.Result.{IfOk-weaker}
-use Rattle.aa_profile_access.specs.SeenRequests.{request_of}
+use Rattle.aa_profile_data.specs.SeenRequests.{request_of}
 use Rattle.aa_profile_data.specs.Picked.{picked}
 use Rattle.aa_explain_rules.specs.Asked.{concerned, rules_of}
 use Rattle.aa_explain_rules.specs.Missing.{lacked}

@@ -1,5 +1,5 @@
 use Rattle.std.proofs.Common.{◌∙◌, ap}
-use Rattle.aa_profile_access.specs.SeenRequests.{request_of}
+use Rattle.aa_profile_data.specs.SeenRequests.{request_of}
 use Rattle.aa_profile_data.specs.Picked.{picked}
 use Rattle.aa_explain_rules.specs.Asked.{rules_of}
 use Rattle.aa_explain_rules.specs.Missing.{lacked}

@@ -1,5 +1,5 @@
 use Rattle.std.proofs.Common.{◌≡◌, ◌++◌, length}
-use Rattle.aa_profile_access.specs.SeenRequests.{request_of}
+use Rattle.aa_profile_data.specs.SeenRequests.{request_of}
 use Rattle.aa_explain_rules.specs.Told.{is_near}
 use Rattle.aa_explain_rules.specs.code.Among.{among}
 use Rattle.aa_explain_rules.proofs.told.near_among.Given as goal

@@ -1,5 +1,5 @@
 use Rattle.std.proofs.Common.{◌≡◌, ◌++◌, length}
-use Rattle.aa_profile_access.specs.SeenRequests.{request_of}
+use Rattle.aa_profile_data.specs.SeenRequests.{request_of}
 use Rattle.aa_explain_rules.specs.code.Among.{told_among}
 use Rattle.aa_explain_rules.proofs.told.told_among.Given as goal
 

@@ -1,6 +1,6 @@
 use Rattle.std.proofs.Common.{◌∙◌, ap}
 use Rattle.std.proofs.lemmas.Result.{IfOk-weaker}
-use Rattle.aa_profile_access.specs.SeenRequests.{request_of}
+use Rattle.aa_profile_data.specs.SeenRequests.{request_of}
 use Rattle.aa_explain_rules.specs.Asked.{audits_of, rules_of}
 use Rattle.aa_explain_rules.specs.code.Among.{told_among}
 use Rattle.aa_explain_rules.proofs.AmongLemmas.{told-among}

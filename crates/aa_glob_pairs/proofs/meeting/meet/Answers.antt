@@ -6,8 +6,8 @@ use Rattle.aa_glob_pairs.specs.Below.{can_clash}
 use Rattle.aa_glob_pairs.specs.Clashes.{Clash, Lowers}
 use Rattle.aa_glob_pairs.specs.Pairs.{classed}
 use Rattle.aa_glob_pairs.specs.declared.ends.Ending.{Ending}
-use Rattle.aa_glob_waiting.proofs.GainLemmas.{front_same}
-use Rattle.aa_glob_waiting.specs.Waiting.{row_at}
+use Rattle.aa_glob_pairs.proofs.GainLemmas.{front_same}
+use Rattle.aa_glob_pairs.specs.Waiting.{row_at}
 use Rattle.aa_glob_pairs.proofs.meeting.meet.Goals as goal
 
 pub index-requires : goal.index-requires

@@ -1,8 +1,8 @@
 use Rattle.std.proofs.Common.{◌-◌, ◌^◌}
 use Rattle.aa_glob_pairs.specs.Pairs.{classed}
 use Rattle.aa_glob_pairs.specs.code.Progress.{IsMeeting}
-use Rattle.aa_glob_waiting.specs.Places.{StandsAt}
-use Rattle.aa_glob_waiting.specs.Waiting.{row_at}
+use Rattle.aa_glob_pairs.specs.Places.{StandsAt}
+use Rattle.aa_glob_pairs.specs.Waiting.{row_at}
 use Rattle.aa_glob_pairs.proofs.meeting.meet_all.Given as goal
 
 abbrev pub invariant-loop-next : goal.invariant-loop-next

@@ -1,8 +1,8 @@
 use Rattle.std.proofs.Common.{◌≤◌, [], arith, length, refl, subst}
 use Rattle.aa_glob_pairs.proofs.ProgressLemmas.{meeting_next_row}
 use Rattle.aa_glob_pairs.specs.Pairs.{classed}
-use Rattle.aa_glob_waiting.specs.Places.{IsNext}
-use Rattle.aa_glob_waiting.specs.Waiting.{row_at}
+use Rattle.aa_glob_pairs.specs.Places.{IsNext}
+use Rattle.aa_glob_pairs.specs.Waiting.{row_at}
 use Rattle.aa_glob_pairs.proofs.meeting.meet_row.Goals as goal
 
 pub returns-in-None : goal.returns-in-None

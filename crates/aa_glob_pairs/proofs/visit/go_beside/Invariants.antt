@@ -1,6 +1,6 @@
 use Rattle.std.proofs.Common.{take, [], ◌∷◌}
 use Rattle.aa_glob_pairs.specs.Nodes.{AreShared}
-use Rattle.aa_glob_waiting.specs.Waiting.{Gains, Ordered}
+use Rattle.aa_glob_pairs.specs.Waiting.{Gains, Ordered}
 use Rattle.aa_glob_pairs.proofs.visit.go_beside.Given as goal
 
 abbrev pub invariant-loop-other : goal.invariant-loop-other

@@ -2,7 +2,7 @@ use Rattle.std.proofs.Common.{◌≡◌, ◌≤◌, length, subst, arith, List, 
 use Rattle.std.proofs.lemmas.List.{take_all}
 use Rattle.std.specs.Prelude.{Contains}
 use Rattle.aa_glob_pairs.proofs.GoLemmas.{go_first_more}
-use Rattle.aa_glob_waiting.specs.Waiting.{Gains, Ordered}
+use Rattle.aa_glob_pairs.specs.Waiting.{Gains, Ordered}
 use Rattle.aa_glob_pairs.proofs.visit.go_first.Goals as goal
 
 pub loop-state-preserved : goal.loop-state-preserved

@@ -1,6 +1,6 @@
 use Rattle.std.proofs.Common.{◌≡◌, take}
 use Rattle.std.specs.Prelude.{Contains}
-use Rattle.aa_glob_waiting.specs.Waiting.{Gains, Ordered}
+use Rattle.aa_glob_pairs.specs.Waiting.{Gains, Ordered}
 use Rattle.aa_glob_pairs.proofs.visit.go_first.Given as goal
 
 abbrev pub invariant-loop-state : goal.invariant-loop-state

@@ -3,7 +3,7 @@ use Rattle.std.proofs.lemmas.Result.{on_ok_weaker}
 use Rattle.std.specs.Prelude.{Contains}
 use Rattle.aa_glob_pairs.proofs.GoLemmas.{go_all}
 use Rattle.aa_glob_pairs.specs.Nodes.{AreShared}
-use Rattle.aa_glob_waiting.specs.Waiting.{Gains, Ordered}
+use Rattle.aa_glob_pairs.specs.Waiting.{Gains, Ordered}
 use Rattle.aa_glob_pairs.specs.declared.moves.Step.{Step}
 use Rattle.aa_glob_pairs.proofs.visit.visit.Goals as goal
 

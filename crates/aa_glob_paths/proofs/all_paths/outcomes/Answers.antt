@@ -4,9 +4,9 @@ use Rattle.std.specs.Option.{option_copied}
 use Rattle.std.specs.Prelude.{Option, Some}
 use Rattle.aa_glob_nfa.specs.Graphs.{EndsAt, Graph}
 use Rattle.aa_glob_pairs.specs.Graphs.{IsLaid}
-use Rattle.aa_glob_automaton.proofs.ClashLemmas.{end-within, graph-laid}
-use Rattle.aa_glob_automaton.specs.Automata.{IsAutomatonOf, IsGraphOf}
-use Rattle.aa_glob_sets.specs.Reachable.{AreMoreThan}
+use Rattle.aa_glob.proofs.ClashLemmas.{end-within, graph-laid}
+use Rattle.aa_glob.specs.Automata.{IsAutomatonOf, IsGraphOf}
+use Rattle.aa_glob_paths.specs.Reachable.{AreMoreThan}
 use Rattle.aa_glob_paths.specs.AllPaths.{TellAllPaths}
 use Rattle.aa_glob_paths.specs.code.AllTexts.{TellAllTexts}
 use Rattle.aa_glob_paths.proofs.PathLemmas.{more-texts, none-told, paths-told, some_weaker}

@@ -1,7 +1,7 @@
 use Rattle.std.proofs.Common.{subst}
 use Rattle.std.specs.Prelude.{IfSome}
 use Rattle.aa_glob_nfa.specs.OfTables.{graph_of}
-use Rattle.aa_glob_sets.specs.Reachable.{AreReachable}
+use Rattle.aa_glob_paths.specs.Reachable.{AreReachable}
 use Rattle.aa_glob_paths.proofs.PathLemmas.{texts-told}
 use Rattle.aa_glob_paths.proofs.of_sets.outcomes_in.Goals as goal
 

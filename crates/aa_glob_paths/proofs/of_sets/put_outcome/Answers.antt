@@ -6,8 +6,8 @@ use Rattle.indexmap.proofs.CallerLemmas.{insert_entry-new}
 use Rattle.aa_glob_nfa.specs.OfTables.{graph_of}
 use Rattle.aa_glob_run.proofs.PatternLemmas.{found_all}
 use Rattle.aa_glob_run.specs.Ends.{AreEndsOf}
-use Rattle.aa_glob_sets.specs.Found.{FoundSet, IsStateSet, no_set, set_at}
-use Rattle.aa_glob_sets.proofs.PlaceLemmas.{kept_at, not_some}
+use Rattle.aa_glob_paths.specs.Found.{FoundSet, IsStateSet, no_set, set_at}
+use Rattle.aa_glob_paths.proofs.PlaceLemmas.{kept_at, not_some}
 use Rattle.aa_glob_paths.specs.code.AllTexts.{AreOutcomesBefore, are_told}
 use Rattle.aa_glob_paths.specs.code.Kept.{Entry, kept_outcomes, outcome_of}
 use Rattle.aa_glob_paths.proofs.OutcomeLemmas.{are-told, ends-classed, kept-more, kept-none, kept-there, outcome-more, outcome-none, outcome-there}

@@ -3,13 +3,13 @@ use Rattle.std.proofs.Math.Seq.{take-length}
 use Rattle.std.proofs.lemmas.List.Elements.{All-get_or}
 use Rattle.aa_glob_nfa.specs.Graphs.{IsFound, Reaches}
 use Rattle.aa_glob_nfa.specs.OfTables.{graph_of}
-use Rattle.aa_glob_front.specs.Fronts.{IsLive}
-use Rattle.aa_glob_front.specs.Runs.{HasRun, IsWhole}
-use Rattle.aa_glob_front.specs.Steps.{IsCounted, counted}
-use Rattle.aa_glob_front.specs.Visits.{CountsVisits}
-use Rattle.aa_glob_front.proofs.FrontLemmas.{length_distinct}
-use Rattle.aa_glob_front.proofs.RunLemmas.{counted_some}
-use Rattle.aa_glob_front.proofs.VisitLemmas.{counts_first, counts_more}
+use Rattle.aa_glob_nfa.specs.Fronts.{IsLive}
+use Rattle.aa_glob_nfa.specs.Runs.{HasRun, IsWhole}
+use Rattle.aa_glob_nfa.specs.Steps.{IsCounted, counted}
+use Rattle.aa_glob_nfa.specs.Visits.{CountsVisits}
+use Rattle.aa_glob_nfa.proofs.FrontLemmas.{length_distinct}
+use Rattle.aa_glob_nfa.proofs.RunLemmas.{counted_some}
+use Rattle.aa_glob_nfa.proofs.VisitLemmas.{counts_first, counts_more}
 use Rattle.aa_glob_run.proofs.PatternLemmas.{OnOk-from, found_all}
 use Rattle.std.proofs.lemmas.Result.{IfOk-weaker}
 use Rattle.aa_glob_run.proofs.RecallLemmas.{recalled_end}

@@ -2,12 +2,12 @@ use Rattle.std.proofs.Common.{◌≡◌, ◌≢◌, ◌<◌, ◌≤◌, ◌+◌,
 use Rattle.std.proofs.lemmas.List.Elements.{All-get_or}
 use Rattle.aa_glob_nfa.specs.Graphs.{Reaches}
 use Rattle.aa_glob_nfa.specs.OfTables.{graph_of}
-use Rattle.aa_glob_front.specs.Fronts.{IsLive}
-use Rattle.aa_glob_front.specs.Steps.{counted}
-use Rattle.aa_glob_front.specs.Visits.{CountsVisits}
-use Rattle.aa_glob_front.proofs.FrontLemmas.{length_distinct}
-use Rattle.aa_glob_front.proofs.RunLemmas.{reverse-longer}
-use Rattle.aa_glob_front.proofs.VisitLemmas.{counts_more, counts_none}
+use Rattle.aa_glob_nfa.specs.Fronts.{IsLive}
+use Rattle.aa_glob_nfa.specs.Steps.{counted}
+use Rattle.aa_glob_nfa.specs.Visits.{CountsVisits}
+use Rattle.aa_glob_nfa.proofs.FrontLemmas.{length_distinct}
+use Rattle.aa_glob_nfa.proofs.RunLemmas.{reverse-longer}
+use Rattle.aa_glob_nfa.proofs.VisitLemmas.{counts_more, counts_none}
 use Rattle.aa_glob_run.proofs.RecallLemmas.{recalled_more, recalled_start}
 use Rattle.aa_glob_run.specs.code.Memos.{front_at, fronts_in}
 use Rattle.aa_glob_run.proofs.recall.known_far.Goals as goal

@@ -1,12 +1,12 @@
 use Rattle.std.proofs.Common.{◌≡◌, ◌∙◌, ◌∷◌, ◌-◌, ap, drop, length, map, subst, sym, take}
 use Rattle.aa_profile_grammar.specs.Blocks.{OfRule}
 use Rattle.aa_profile_grammar.specs.SeenFiles.{seen_member}
-use Rattle.aa_profile_patterns.specs.PatternTokens.{of_members, of_rule}
-use Rattle.aa_profile_patterns.specs.Patterns.{are_counted}
+use Rattle.aa_profile_grammar.specs.PatternTokens.{of_members, of_rule}
+use Rattle.aa_profile_grammar.specs.Patterns.{are_counted}
 use Rattle.aa_profile_rules.specs.SeenRules.{seen_rule}
 use Rattle.aa_profile.proofs.ConflictLemmas.{counted-behind, members-more}
-use Rattle.aa_profile_making.proofs.ProfileLemmas.{parts_of}
-use Rattle.aa_profile_making.specs.Profiles.{children_of}
+use Rattle.aa_profile.proofs.ProfileLemmas.{parts_of}
+use Rattle.aa_profile.specs.Profiles.{children_of}
 use Rattle.aa_profile.specs.code.ConflictProgress.{ReachesMembers}
 use Rattle.aa_profile.proofs.conflicts.conflict_in_members.Goals as goal
 

@@ -1,8 +1,8 @@
 use Rattle.std.proofs.Common.{◌≡◌, length, map, true}
 use Rattle.aa_profile_grammar.specs.SeenFiles.{seen_member}
-use Rattle.aa_profile_patterns.specs.PatternTokens.{of_members}
-use Rattle.aa_profile_patterns.specs.Patterns.{are_counted}
-use Rattle.aa_profile_making.specs.Profiles.{children_of}
+use Rattle.aa_profile_grammar.specs.PatternTokens.{of_members}
+use Rattle.aa_profile_grammar.specs.Patterns.{are_counted}
+use Rattle.aa_profile.specs.Profiles.{children_of}
 use Rattle.aa_profile.specs.code.ConflictProgress.{ReachesMembers}
 use Rattle.aa_profile.proofs.conflicts.conflict_in_members.Given as goal
 

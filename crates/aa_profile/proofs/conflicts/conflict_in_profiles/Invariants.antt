@@ -1,9 +1,9 @@
 use Rattle.std.proofs.Common.{◌≡◌, length, map, true}
 use Rattle.aa_profile_grammar.specs.SeenFiles.{seen_profile}
 use Rattle.aa_profile.specs.Conflicts.{conflict_in_profiles}
-use Rattle.aa_profile_patterns.specs.PatternTokens.{of_profiles}
-use Rattle.aa_profile_patterns.specs.Patterns.{are_counted}
-use Rattle.aa_profile_making.specs.Profiles.{profile_of}
+use Rattle.aa_profile_grammar.specs.PatternTokens.{of_profiles}
+use Rattle.aa_profile_grammar.specs.Patterns.{are_counted}
+use Rattle.aa_profile.specs.Profiles.{profile_of}
 use Rattle.aa_profile.proofs.conflicts.conflict_in_profiles.Given as goal
 
 -- the rest decides, and the profiles that are left are those that it makes

@@ -1,7 +1,7 @@
 use Rattle.std.proofs.Common.{◌≡◌, length, map, true}
 use Rattle.aa_profile_rules.specs.SeenRules.{seen_rule}
-use Rattle.aa_profile_patterns.specs.PatternTokens.{of_rules}
-use Rattle.aa_profile_patterns.specs.Patterns.{are_counted}
+use Rattle.aa_profile_grammar.specs.PatternTokens.{of_rules}
+use Rattle.aa_profile_grammar.specs.Patterns.{are_counted}
 use Rattle.aa_profile.specs.code.ConflictProgress.{ReachesRules}
 use Rattle.aa_profile.proofs.conflicts.conflict_in_rules.Given as goal
 

@@ -1,6 +1,6 @@
 use Rattle.std.proofs.Common.{◌≡◌, ◌∙◌, arith, length, Some, sym}
 use Rattle.aa_profile_rules.specs.SeenRules.{seen_rule}
-use Rattle.aa_profile_making.specs.Profiles.{rules_of_rule}
+use Rattle.aa_profile.specs.Profiles.{rules_of_rule}
 use Rattle.aa_profile.proofs.ConflictLemmas.{passes-behind, passes-here, passes-none, rules-counted}
 use Rattle.aa_profile.proofs.conflicts.pass.Goals as goal
 

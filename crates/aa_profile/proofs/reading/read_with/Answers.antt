@@ -1,6 +1,6 @@
 use Rattle.std.proofs.Common.{◌≡◌, None}
 use Rattle.aa_profile_parsing.specs.SeenTokens.{seen_tokens}
-use Rattle.aa_profile_patterns.specs.Patterns.{over_limit}
+use Rattle.aa_profile_grammar.specs.Patterns.{over_limit}
 use Rattle.aa_profile.proofs.ConflictLemmas.{counted-few}
 use Rattle.aa_profile.proofs.reading.read_with.Goals as goal
 

@@ -1,7 +1,7 @@
 use Rattle.std.proofs.Common.{◌++◌, ◌∷◌, ◌∙◌, [], List, ℕ, ap, subst, sym}
 use Rattle.std.specs.Prelude.{get_or, take}
 use Rattle.std.proofs.lemmas.List.{take_more}
-use Rattle.aa_glob_automaton.specs.Built.{IsBuilt}
+use Rattle.aa_glob.specs.Built.{IsBuilt}
 use Rattle.aa_profile_conflicts.proofs.PlacedLemmas.{patterns-append}
 use Rattle.aa_profile_conflicts.specs.Leads.{patterns_by}
 use Rattle.aa_profile_conflicts.proofs.conflicts.automaton_of.Goals as goal

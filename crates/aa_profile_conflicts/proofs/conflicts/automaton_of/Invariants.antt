@@ -1,5 +1,5 @@
 use Rattle.std.proofs.Common.{take}
-use Rattle.aa_glob_automaton.specs.Built.{IsBuilt}
+use Rattle.aa_glob.specs.Built.{IsBuilt}
 use Rattle.aa_profile_conflicts.specs.Leads.{patterns_by}
 use Rattle.aa_profile_conflicts.proofs.conflicts.automaton_of.Given as goal
 

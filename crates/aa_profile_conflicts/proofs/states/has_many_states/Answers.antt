@@ -1,6 +1,6 @@
 use Rattle.std.proofs.Common.{◌+◌, ◌∙◌, List, ℕ, arith, subst, sym}
 use Rattle.std.specs.Prelude.{take}
-use Rattle.aa_glob_automaton.specs.Built.{IsBuilt}
+use Rattle.aa_glob.specs.Built.{IsBuilt}
 use Rattle.aa_profile_conflicts.proofs.StateLemmas.{exec_patterns-more, many-already, not-many}
 use Rattle.aa_profile_conflicts.specs.States.{exec_patterns}
 use Rattle.aa_profile_conflicts.proofs.states.has_many_states.Goals as goal

@@ -1,6 +1,6 @@
 use Rattle.std.proofs.Common.{take, ◌≤◌}
-use Rattle.aa_glob_automaton.specs.Built.{IsBuilt}
-use Rattle.aa_glob_automaton.specs.States.{state_count}
+use Rattle.aa_glob.specs.Built.{IsBuilt}
+use Rattle.aa_glob.specs.States.{state_count}
 use Rattle.aa_profile_conflicts.specs.States.{exec_patterns, most_exec_states}
 use Rattle.aa_profile_conflicts.proofs.states.has_many_states.Given as goal
 

@@ -1,6 +1,6 @@
 use Rattle.std.proofs.Common.{◌∙◌, ◌+◌, ap, Ok, take, drop}
 use Rattle.std.proofs.lemmas.List.{drop-map, take-map, take_rest}
-use Rattle.aa_text_splicing.specs.SeenTokens.{seen_spliced}
+use Rattle.aa_text_tokens.specs.SeenSplicedTokens.{seen_spliced}
 use Rattle.aa_profile_parsing.specs.SeenTokens.{seen_tokens}
 use Rattle.aa_profile_rules.proofs.kept_rules.read_kept.Goals as goal
 

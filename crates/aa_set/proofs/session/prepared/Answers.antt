@@ -1,5 +1,5 @@
 use Rattle.std.proofs.Common.{[], List, ℕ, refl, sym, subst}
-use Rattle.aa_set_lines.specs.Streams.{WritesBehind}
+use Rattle.aa_set_commands.specs.Streams.{WritesBehind}
 use Rattle.aa_set.proofs.StreamLemmas.{WritesBehind-nil}
 use Rattle.aa_set.proofs.session.prepared.Goals as goal
 

@@ -1,6 +1,6 @@
 use Rattle.std.proofs.Common.{◌≡◌, take}
 use Rattle.aa_bytes.specs.Quoting.{hexadecimal}
-use Rattle.aa_set_lines.specs.Streams.{WritesBehind}
+use Rattle.aa_set_commands.specs.Streams.{WritesBehind}
 use Rattle.aa_set.proofs.writing.write_hexadecimal.Given as goal
 
 -- the bytes so far are written

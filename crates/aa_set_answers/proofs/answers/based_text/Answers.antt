@@ -1,6 +1,6 @@
 use Rattle.std.proofs.Common.{◌≡◌, Some, sym, subst}
 use Rattle.std.specs.Prelude.{IfOk}
-use Rattle.aa_profile_access.specs.Stacks.{parts_of}
+use Rattle.aa_profile_data.specs.Stacks.{parts_of}
 use Rattle.aa_set_answers.specs.code.SeenTexts.{seen_stack_text}
 use Rattle.aa_set_answers.specs.Answers.{stack_text}
 use Rattle.aa_set_answers.proofs.answers.based_text.Goals as goal

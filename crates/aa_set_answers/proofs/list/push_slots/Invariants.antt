@@ -1,5 +1,5 @@
 use Rattle.std.proofs.Common.{◌≡◌, ◌++◌, flat_map, length}
-use Rattle.aa_decide_slots.specs.Slots.{filled}
+use Rattle.aa_decide_ready.specs.Slots.{filled}
 use Rattle.aa_set_answers.specs.List.{entry_lines}
 use Rattle.aa_set_answers.proofs.list.push_slots.Given as goal
 

@@ -1,6 +1,6 @@
 use Rattle.std.proofs.Common.{◌≡◌, length}
 use Rattle.std.specs.List.{fold}
-use Rattle.aa_profile_access.specs.Stacks.{parts_of}
+use Rattle.aa_profile_data.specs.Stacks.{parts_of}
 use Rattle.aa_set_answers.specs.StackNames.{put_name}
 use Rattle.aa_set_answers.specs.code.SeenNames.{seen_names}
 use Rattle.aa_set_answers.proofs.stacks.put_members.Given as goal

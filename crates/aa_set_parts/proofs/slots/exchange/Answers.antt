@@ -1,6 +1,6 @@
 use Rattle.std.proofs.Common.{sym, ap, ◌∙◌}
 use Rattle.std.proofs.Math.Seq.{map-set_same}
-use Rattle.aa_decide_slots.specs.Indexes.{profile_in}
+use Rattle.aa_decide_ready.specs.Indexes.{profile_in}
 use Rattle.aa_set_parts.specs.Parts.{put_in, taken_out}
 use Rattle.aa_set_parts.specs.PartLaws.{same_part}
 use Rattle.aa_set_parts.specs.Slots.{with_content}

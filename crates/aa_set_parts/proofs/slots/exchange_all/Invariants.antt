@@ -1,6 +1,6 @@
 use Rattle.std.proofs.Common.{◌≡◌, ◌<◌, ◌++◌, true, length, take, drop}
 use Rattle.std.specs.List.{All, list_all}
-use Rattle.aa_decide_slots.specs.Indexes.{HoldSame}
+use Rattle.aa_decide_ready.specs.Indexes.{HoldSame}
 use Rattle.aa_set_parts.specs.Parts.{after, is_state}
 use Rattle.aa_set_parts.specs.Slots.{trimmed}
 use Rattle.aa_set_parts.proofs.ExchangeLemmas.{lefts}

@@ -1,6 +1,6 @@
 use Rattle.std.proofs.Common.{◌≡◌, map, take}
 use Rattle.std.specs.Prelude.{flat_map}
-use Rattle.aa_profile_access.specs.SeenRequests.{request_of}
+use Rattle.aa_profile_data.specs.SeenRequests.{request_of}
 use Rattle.aatry_abstractions.specs.Letting.{letting_of}
 use Rattle.aatry_abstractions.specs.Probes.{probed}
 use Rattle.aatry_abstractions.specs.SeenLetting.{seen_letting}

@@ -1,5 +1,5 @@
 use Rattle.std.proofs.Common.{◌≡◌, ◌+◌, ◌++◌, length, map}
-use Rattle.aa_profile_access.specs.SeenRequests.{request_of}
+use Rattle.aa_profile_data.specs.SeenRequests.{request_of}
 use Rattle.aatry_abstractions.specs.Letting.{places_let}
 use Rattle.aatry_abstractions.proofs.letting.places_let.Given as goal
 

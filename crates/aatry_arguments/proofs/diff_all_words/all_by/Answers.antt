@@ -1,12 +1,12 @@
 use Rattle.std.proofs.Common.{◌≡◌, ◌≤◌, ℕ, List, [], Option, map, string_bytes, length, codes, refl, sym, ap, subst, ◌∙◌, arith}
 use Rattle.std.specs.Prelude.{unwrap_or}
 use Rattle.std.proofs.lemmas.List.{length-map}
-use Rattle.aa_options.specs.Given.{IsGivenFor}
-use Rattle.aa_options.specs.Options.{Asked, Open, asked_then}
-use Rattle.aa_options.specs.Texts.{words_of}
-use Rattle.aa_options.proofs.FaultLemmas.{fault_answers}
-use Rattle.aa_options.proofs.LineLemmas.{fails_of, kinds_asked, rows_asked, rows_of_line, words_or}
-use Rattle.aa_options.proofs.RowLemmas.{value_shown, words_shown}
+use Rattle.aa_start.specs.Given.{IsGivenFor}
+use Rattle.aa_start.specs.Options.{Asked, Open, asked_then}
+use Rattle.aa_start.specs.Texts.{words_of}
+use Rattle.aa_start.proofs.FaultLemmas.{fault_answers}
+use Rattle.aa_start.proofs.LineLemmas.{fails_of, kinds_asked, rows_asked, rows_of_line, words_or}
+use Rattle.aa_start.proofs.RowLemmas.{value_shown, words_shown}
 use Rattle.clap.specs.Lexer.{usize_max}
 use Rattle.clap.specs.Words.{all_of, app_of, fault_of, first_of, found_of, matches_of, rows_of}
 use Rattle.clap.proofs.WalkLemmas.{first_value-rows, raw_values-rows}

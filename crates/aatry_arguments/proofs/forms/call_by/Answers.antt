@@ -1,5 +1,5 @@
 use Rattle.std.proofs.Common.{map, string_bytes}
-use Rattle.aa_options.proofs.FaultLemmas.{memory_given}
+use Rattle.aa_start.proofs.FaultLemmas.{memory_given}
 use Rattle.aatry_arguments.specs.Forms.{asked_by}
 use Rattle.aatry_arguments.specs.Given.{meant_call}
 use Rattle.aatry_arguments.proofs.forms.call_by.Goals as goal

@@ -1,5 +1,5 @@
 use Rattle.std.proofs.Common.{◌∙◌, ap, refl}
-use Rattle.aa_options.specs.Options.{asked_as}
+use Rattle.aa_start.specs.Options.{asked_as}
 use Rattle.aatry_arguments.specs.Arguments.{ForDiff}
 use Rattle.aatry_arguments.specs.DiffWords.{asked_by, stat_flag}
 use Rattle.aatry_arguments.specs.Flags.{without_flag}

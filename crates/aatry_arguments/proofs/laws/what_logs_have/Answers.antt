@@ -1,6 +1,6 @@
 use Rattle.std.proofs.Common.{◌≡◌, ◌∙◌, ℕ, Bool, false, List, [], Option, None, Some, ap, refl}
 use Rattle.std.specs.Option.{option_map}
-use Rattle.aa_options.specs.Options.{Asked, asked_as, asked_then}
+use Rattle.aa_start.specs.Options.{Asked, asked_as, asked_then}
 use Rattle.aatry_arguments.specs.Arguments.{CommandAsked, ForLog}
 use Rattle.aatry_arguments.specs.Flags.{is_given, without_flag}
 use Rattle.aatry_arguments.specs.CheckWords.{asked_check, check_with}

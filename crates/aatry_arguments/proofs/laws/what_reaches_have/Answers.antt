@@ -1,5 +1,5 @@
 use Rattle.std.proofs.Common.{◌∙◌, ap, false, true, refl}
-use Rattle.aa_options.specs.Options.{asked_as, asked_then}
+use Rattle.aa_start.specs.Options.{asked_as, asked_then}
 use Rattle.aatry_arguments.specs.Arguments.{ForReach}
 use Rattle.aatry_arguments.specs.AskingWords.{asked_words}
 use Rattle.aatry_arguments.specs.Flags.{without_flag}

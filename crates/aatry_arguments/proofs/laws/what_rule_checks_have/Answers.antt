@@ -1,5 +1,5 @@
 use Rattle.std.proofs.Common.{◌∙◌, ap, false, refl, true}
-use Rattle.aa_options.specs.Options.{asked_as, asked_then}
+use Rattle.aa_start.specs.Options.{asked_as, asked_then}
 use Rattle.aatry_arguments.specs.Arguments.{ForRules}
 use Rattle.aatry_arguments.specs.CheckWords.{asked_check, check_with}
 use Rattle.aatry_arguments.specs.Flags.{without_flag}

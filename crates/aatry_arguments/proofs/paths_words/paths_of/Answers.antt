@@ -1,5 +1,5 @@
 use Rattle.std.proofs.Common.{map, string_bytes}
-use Rattle.aa_options.proofs.FaultLemmas.{memory_given}
+use Rattle.aa_start.proofs.FaultLemmas.{memory_given}
 use Rattle.aatry_arguments.specs.Given.{meant_paths}
 use Rattle.aatry_arguments.specs.PathsWords.{asked_paths}
 use Rattle.aatry_arguments.proofs.paths_words.paths_of.Goals as goal

@@ -1,5 +1,5 @@
 use Rattle.std.proofs.Common.{◌≡◌, ◌++◌, drop, map}
-use Rattle.aaset_start.specs.Gathering.{texts_of}
+use Rattle.aa_start.specs.Gathering.{texts_of}
 use Rattle.aatry_folder.specs.Loadings.{file_names, seen_top}
 use Rattle.aatry_check.proofs.below.names_of.Given as goal
 

@@ -1,6 +1,6 @@
 use Rattle.std.proofs.Common.{◌≡◌, ◌≤◌, ◌+◌, length, map}
 use Rattle.std.specs.Prelude.{count_by}
-use Rattle.aatry_redundant_rules.specs.Finding.{is_absent}
+use Rattle.aatry_check_rules.specs.Finding.{is_absent}
 use Rattle.aatry_policy.specs.SeenProfiles.{seen_part}
 use Rattle.aatry_check_rules.proofs.summary.absent_count.Given as goal
 

@@ -1,6 +1,6 @@
 use Rattle.std.proofs.Common.{◌≡◌, ◌≤◌, ◌+◌, length, map}
 use Rattle.std.specs.Prelude.{count_by}
-use Rattle.aatry_redundant_rules.specs.Finding.{is_many, seen_found}
+use Rattle.aatry_check_rules.specs.Finding.{is_many, seen_found}
 use Rattle.aatry_check_rules.proofs.summary.many_count.Given as goal
 
 -- the count so far and the others are all, and they are no more than the parts

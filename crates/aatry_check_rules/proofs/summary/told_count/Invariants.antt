@@ -1,6 +1,6 @@
 use Rattle.std.proofs.Common.{◌≡◌, ◌+◌, length, map}
 use Rattle.std.specs.List.{sum_by}
-use Rattle.aatry_redundant_rules.specs.Finding.{seen_found}
+use Rattle.aatry_check_rules.specs.Finding.{seen_found}
 use Rattle.aatry_check_rules.specs.Summary.{told_in}
 use Rattle.aatry_check_rules.proofs.summary.told_count.Given as goal
 

@@ -1,5 +1,5 @@
 use Rattle.std.proofs.Common.{◌≡◌, ◌++◌, length, map}
-use Rattle.aatry_redundant_rules.specs.Finding.{seen_found}
+use Rattle.aatry_check_rules.specs.Finding.{seen_found}
 use Rattle.aatry_check_rules.specs.Telling.{all_text}
 use Rattle.aatry_check_rules.proofs.telling.push_each.Given as goal
 

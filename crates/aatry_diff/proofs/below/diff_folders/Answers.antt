@@ -1,5 +1,5 @@
 use Rattle.std.proofs.Common.{ℕ, List, ap, map, subst, ◌∙◌}
-use Rattle.aaset_start.specs.Gathering.{names_of}
+use Rattle.aa_start.specs.Gathering.{names_of}
 use Rattle.aatry_arguments.specs.Given.{meant_comparison}
 use Rattle.aatry_diff.proofs.BelowLemmas.{compared}
 use Rattle.aatry_diff.proofs.below.diff_folders.Goals as goal

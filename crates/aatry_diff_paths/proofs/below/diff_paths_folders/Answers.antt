@@ -1,9 +1,9 @@
 use Rattle.std.proofs.Common.{◌≡◌, ℕ, List, ap, map, string_bytes, subst, ◌∙◌}
-use Rattle.aaset_start.specs.Gathering.{names_of}
+use Rattle.aa_start.specs.Gathering.{names_of}
 use Rattle.aatry_arguments.specs.Given.{meant_path_comparison}
 use Rattle.aatry_folder.specs.Loadings.{AreTop, seen_top}
 use Rattle.aatry_folder.specs.PolicyFolders.{AreBelow, tried_names}
-use Rattle.aatry_never.specs.Never.{seen_paths_report}
+use Rattle.aatry_claims.specs.Never.{seen_paths_report}
 use Rattle.aatry_policy.specs.Folders.{seen_folder}
 use Rattle.aatry_diff_paths.specs.Below.{IsCompared, how_of}
 use Rattle.aatry_diff_paths.proofs.BelowLemmas.{compared}

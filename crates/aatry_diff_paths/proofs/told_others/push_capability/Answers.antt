@@ -1,6 +1,6 @@
 use Rattle.std.proofs.Common.{◌∙◌, ◌++◌, ap, append_assoc}
 use Rattle.std.specs.Prelude.{codes}
-use Rattle.aa_profile_tables.specs.Capabilities.{capability_name}
+use Rattle.aa_profile_data.specs.Capabilities.{capability_name}
 use Rattle.aatry_diff_paths.specs.Telling.{capability_words, name_or}
 use Rattle.aatry_diff_paths.proofs.told_others.push_capability.Goals as goal
 

@@ -1,6 +1,6 @@
 use Rattle.std.proofs.Common.{◌≡◌, ◌++◌, map, string_bytes}
 use Rattle.std.specs.List.{All}
-use Rattle.aaset_start.specs.Gathering.{texts_of}
+use Rattle.aa_start.specs.Gathering.{texts_of}
 use Rattle.aatry_folder.specs.Loadings.{IsAsked, file_names, seen_top}
 use Rattle.aatry_folder.proofs.loading.asked.Given as goal
 

@@ -1,7 +1,7 @@
 use Rattle.std.proofs.Common.{◌≡◌, ◌∙◌, ap, codes, false, string_bytes, subst, sym}
 use Rattle.std.proofs.lemmas.Result.{err_from_is_err_and}
 use Rattle.aa_text_files.specs.Files.{is_folder_name}
-use Rattle.aaset_start.specs.Gathering.{IsFirstFault, IsReadBelow}
+use Rattle.aa_start.specs.Gathering.{IsFirstFault, IsReadBelow}
 use Rattle.aatry_folder.proofs.UnreadLemmas.{of_file}
 use Rattle.aatry_folder.proofs.OneFileLemmas.{one_file}
 use Rattle.aatry_folder.proofs.one_file.file_at.Goals as goal

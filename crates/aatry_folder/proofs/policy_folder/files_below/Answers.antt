@@ -1,5 +1,5 @@
 use Rattle.std.proofs.Common.{◌∙◌, ap, map, string_bytes}
-use Rattle.aatry_whole_names.specs.WholeNames.{whole_names}
+use Rattle.aatry_folder.specs.WholeNames.{whole_names}
 use Rattle.aatry_folder.proofs.policy_folder.files_below.Goals as goal
 
 -- the names come of the walk, and the whole paths of what was read first

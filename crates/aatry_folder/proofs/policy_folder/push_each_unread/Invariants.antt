@@ -1,5 +1,5 @@
 use Rattle.std.proofs.Common.{◌≡◌, ◌++◌, length, map, string_bytes}
-use Rattle.aaset_start.specs.Gathering.{texts_of}
+use Rattle.aa_start.specs.Gathering.{texts_of}
 use Rattle.aatry_folder.specs.PolicyFolders.{unread_below}
 use Rattle.aatry_folder.proofs.policy_folder.push_each_unread.Given as goal
 

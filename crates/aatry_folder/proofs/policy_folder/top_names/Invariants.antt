@@ -1,5 +1,5 @@
 use Rattle.std.proofs.Common.{◌≡◌, ◌++◌, drop, map, string_bytes}
-use Rattle.aaset_start.specs.Gathering.{texts_of}
+use Rattle.aa_start.specs.Gathering.{texts_of}
 use Rattle.aatry_folder.specs.PolicyFolders.{top_names}
 use Rattle.aatry_folder.proofs.policy_folder.top_names.Given as goal
 

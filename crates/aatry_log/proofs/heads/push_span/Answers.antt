@@ -1,6 +1,6 @@
 use Rattle.std.proofs.Common.{◌≡◌, ◌∙◌, ◌++◌, ℕ, List, ap, append_assoc, codes, sym}
 use Rattle.aatry_log.specs.Requests.{last_text, span_text}
-use Rattle.aatry_times.specs.Told.{time_text}
+use Rattle.aatry_words.specs.Told.{time_text}
 use Rattle.aatry_log.proofs.heads.push_span.Goals as goal
 
 -- four texts behind another are one

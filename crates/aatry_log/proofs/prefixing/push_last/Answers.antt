@@ -1,6 +1,6 @@
 use Rattle.std.proofs.Common.{◌≡◌, ◌++◌, sym, ap, append-nil, flat_map, ◌∙◌}
 use Rattle.std.proofs.lemmas.Result.{on_ok_weaker}
-use Rattle.aa_set_lines.specs.Lines.{lines}
+use Rattle.aa_set_commands.specs.Lines.{lines}
 use Rattle.aatry_log.specs.Prefixed.{prefixed}
 use Rattle.aatry_log_lines.proofs.LineLemmas.{lines-last}
 use Rattle.aatry_log.proofs.prefixing.push_last.Goals as goal

@@ -1,5 +1,5 @@
 use Rattle.std.proofs.Common.{◌≡◌, ◌++◌, length, flat_map}
-use Rattle.aa_set_lines.specs.Lines.{lines}
+use Rattle.aa_set_commands.specs.Lines.{lines}
 use Rattle.aatry_log.specs.Prefixed.{prefixed}
 use Rattle.aatry_log.proofs.prefixing.push_lines.Given as goal
 

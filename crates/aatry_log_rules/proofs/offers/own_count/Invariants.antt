@@ -1,6 +1,6 @@
 use Rattle.std.proofs.Common.{◌≡◌, ◌+◌, ◌≤◌, length, map}
 use Rattle.aatry_log_rules.specs.Offers.{own_count}
-use Rattle.aatry_log_wants.specs.SeenWanted.{seen_wanted}
+use Rattle.aatry_log_rules.specs.SeenWanted.{seen_wanted}
 use Rattle.aatry_log_rules.proofs.offers.own_count.Given as goal
 
 -- how many there are so far, with those of the rest, are all

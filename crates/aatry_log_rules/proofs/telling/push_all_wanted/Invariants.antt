@@ -1,7 +1,7 @@
 use Rattle.std.proofs.Common.{◌≡◌, ◌++◌, [], None, length, map}
 use Rattle.std.specs.Option.{option_copied}
 use Rattle.aatry_log_rules.specs.SeenTelling.{seen_telling}
-use Rattle.aatry_log_wants.specs.SeenWanted.{seen_wanted}
+use Rattle.aatry_log_rules.specs.SeenWanted.{seen_wanted}
 use Rattle.aatry_log_rules.specs.Told.{wanted_texts}
 use Rattle.aatry_log_rules.proofs.telling.push_all_wanted.Given as goal
 

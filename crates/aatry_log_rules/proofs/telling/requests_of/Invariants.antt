@@ -1,6 +1,6 @@
 use Rattle.std.proofs.Common.{◌≡◌, ◌++◌, length, map}
-use Rattle.aa_profile_access.specs.SeenRequests.{request_of}
-use Rattle.aatry_log_wants.specs.SeenWanted.{seen_wanted}
+use Rattle.aa_profile_data.specs.SeenRequests.{request_of}
+use Rattle.aatry_log_rules.specs.SeenWanted.{seen_wanted}
 use Rattle.aatry_log_rules.proofs.telling.requests_of.Given as goal
 
 -- the requests so far, with those that are left, are all

@@ -1,5 +1,5 @@
 use Rattle.std.proofs.Common.{◌≡◌, ◌++◌, length, map}
-use Rattle.aa_decide_slots.specs.Slots.{filled}
+use Rattle.aa_decide_ready.specs.Slots.{filled}
 use Rattle.aatry_policy.specs.Parts.{set_parts}
 use Rattle.aatry_policy.specs.SeenProfiles.{seen_part}
 use Rattle.aatry_policy.proofs.parts.slots_parts.Given as goal

@@ -1,8 +1,8 @@
 use Rattle.std.proofs.Common.{◌≡◌, ◌∙◌, length, map, ap}
 use Rattle.std.proofs.lemmas.Result.{IfOk-weaker}
 use Rattle.aa_profile_data.specs.declared.profile.Profile.{Profile}
-use Rattle.aa_set_changes.specs.Changes.{with_added}
-use Rattle.aa_set_changes.specs.declared.settings.Settings.{Settings}
+use Rattle.aa_set_manager.specs.Changes.{with_added}
+use Rattle.aa_set_manager.specs.declared.settings.Settings.{Settings}
 use Rattle.aa_set_manager.specs.Manager.{Managed, added}
 use Rattle.aatry_policy.proofs.SwitchLemmas.{if-settings}
 use Rattle.aatry_policy.specs.Policies.{switched_if}

@@ -1,5 +1,5 @@
 use Rattle.std.proofs.Common.{◌<◌, [], arith, length}
-use Rattle.aa_profile_tables.specs.Domains.{names}
+use Rattle.aa_profile_data.specs.Domains.{names}
 use Rattle.aatry_questions.proofs.TableLemmas.{take_next}
 use Rattle.aatry_questions.proofs.misspelled.domain_names.Goals as goal
 

@@ -1,5 +1,5 @@
 use Rattle.std.proofs.Common.{◌≡◌, map, take}
-use Rattle.aa_profile_tables.specs.Domains.{names}
+use Rattle.aa_profile_data.specs.Domains.{names}
 use Rattle.aatry_questions.proofs.misspelled.domain_names.Given as goal
 
 -- the names of the numbers so far

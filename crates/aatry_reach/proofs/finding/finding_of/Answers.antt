@@ -1,6 +1,6 @@
 use Rattle.std.proofs.Common.{◌≡◌, ℕ, List, Option, Some, refl, subst, sym}
 use Rattle.aa_decide.specs.Exec.{Asker}
-use Rattle.aa_decide_slots.specs.Entries.{Loaded}
+use Rattle.aa_decide_ready.specs.Entries.{Loaded}
 use Rattle.aa_explain_reach.specs.declared.reach.Reach.{Reach}
 use Rattle.aatry_reach.specs.Finding.{IsFindingOf, IsReachOf}
 use Rattle.aatry_reach.specs.declared.finding.Finding.TheVariants.{Reached}

@@ -1,6 +1,6 @@
 use Rattle.std.proofs.Common.{◌≡◌, length}
 use Rattle.std.specs.List.{slice_split}
-use Rattle.aa_profile_flags.specs.Flags.{separates}
+use Rattle.aa_profile_parsing.specs.Flags.{separates}
 use Rattle.aatry_refusal_words.specs.FlagFaults.{first_unknown}
 use Rattle.aatry_refusal_words.proofs.flags.first_unknown.Given as goal
 

@@ -1,6 +1,6 @@
 use Rattle.std.proofs.Common.{◌∙◌, ◌∷◌, sym, ap, take}
-use Rattle.aa_profile_flags.specs.Flags.{separates}
-use Rattle.aa_profile_flags.proofs.FlagLemmas.{first_word, words_behind, words_behind-none, words_behind-some}
+use Rattle.aa_profile_parsing.specs.Flags.{separates}
+use Rattle.aa_profile_parsing.proofs.FlagLemmas.{first_word, words_behind, words_behind-none, words_behind-some}
 use Rattle.aatry_refusal_words.proofs.flags.first_word.Goals as goal
 
 pub returns-in_default-clause-words : goal.returns-in_default-clause-words

@@ -1,5 +1,5 @@
 use Rattle.std.proofs.Common.{sym, ap, ◌∙◌}
-use Rattle.aa_set_lines.specs.Lines.{lines}
+use Rattle.aa_set_commands.specs.Lines.{lines}
 use Rattle.aatry_requests.specs.Gathering.{seen_requests, with_lines}
 use Rattle.aatry_log_lines.proofs.LineLemmas.{lines-ended}
 use Rattle.aatry_requests.proofs.requests.gather.Goals as goal

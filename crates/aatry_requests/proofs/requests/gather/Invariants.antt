@@ -1,5 +1,5 @@
 use Rattle.std.proofs.Common.{◌≡◌, length}
-use Rattle.aa_set_lines.specs.Lines.{lines}
+use Rattle.aa_set_commands.specs.Lines.{lines}
 use Rattle.aatry_requests.specs.Gathering.{gathered, seen_requests, with_lines}
 use Rattle.aatry_requests.proofs.requests.gather.Given as goal
 

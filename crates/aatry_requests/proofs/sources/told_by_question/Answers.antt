@@ -1,4 +1,4 @@
-use Rattle.aa_set_lines.specs.Words.{words_of}
+use Rattle.aa_set_commands.specs.Words.{words_of}
 use Rattle.aatry_requests.proofs.SourceLemmas.{uncut}
 use Rattle.aatry_requests.proofs.sources.told_by_question.Goals as goal
 

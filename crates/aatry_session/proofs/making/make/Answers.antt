@@ -3,7 +3,7 @@ use Rattle.std.specs.Prelude.{nat_le}
 use Rattle.std.proofs.lemmas.Bool.Decides.{nat_tests}
 use Rattle.aa_set_manager.specs.Outcomes.{command_in}
 use Rattle.aa_set_commands.specs.Command.{Add, Replace, seen_change}
-use Rattle.aa_set_lines.specs.Limits.{longest_line}
+use Rattle.aa_set_commands.specs.Limits.{longest_line}
 use Rattle.aatry_session_told.specs.Commands.{change_in}
 use Rattle.aatry_session.proofs.MakeLemmas.{line-made}
 use Rattle.aatry_session.proofs.making.make.Goals as goal

@@ -1,7 +1,7 @@
 use Rattle.std.proofs.Common.{◌≡◌, ◌∙◌, ◌++◌, ℕ, List, ap, inl, inr, refl, subst}
 use Rattle.std.specs.Io.KnownBytes.{Appends}
 use Rattle.std.proofs.lemmas.Result.{IfErr-weaker, err_from_is_err_and, on_ok_weaker}
-use Rattle.aa_set_lines.specs.Streams.{AppendsFront}
+use Rattle.aa_set_commands.specs.Streams.{AppendsFront}
 use Rattle.aatry_folder.specs.declared.fault.Fault.{Fault}
 use Rattle.aatry_session_run.specs.Broken.{IsBrokenRun, IsBrokenSession}
 use Rattle.aatry_session_run.specs.Session.{IsRun}

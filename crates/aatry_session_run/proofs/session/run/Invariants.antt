@@ -1,6 +1,6 @@
 use Rattle.std.proofs.Common.{◌≡◌, ◌≤◌, ◌+◌, ℕ, List, length}
 use Rattle.std.specs.Prelude.{◌*◌}
-use Rattle.aatry_input.specs.Inputs.{most_reads}
+use Rattle.aatry_logs.specs.OpenedInputs.{most_reads}
 use Rattle.aatry_session_run.specs.Session.{Answers}
 use Rattle.aatry_session_run.specs.code.Sessions.{standing}
 use Rattle.aatry_session_run.proofs.session.run.Given as goal

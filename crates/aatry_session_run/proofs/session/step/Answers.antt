@@ -1,7 +1,7 @@
 use Rattle.std.proofs.Common.{rules, ◌≡◌, ◌∙◌, ◌++◌, ap, inl, inr, subst}
 use Rattle.std.proofs.lemmas.Result.{err_from_is_err_and}
 use Rattle.std.specs.Io.KnownBytes.{Appends}
-use Rattle.aa_set_lines.specs.Streams.{AppendsFront}
+use Rattle.aa_set_commands.specs.Streams.{AppendsFront}
 use Rattle.aatry_session_run.specs.Session.{IsTurn}
 use Rattle.aatry_session_run.specs.code.Sessions.{seen_table}
 use Rattle.aatry_session_run.proofs.session.step.Goals as goal

@@ -1,6 +1,6 @@
 use Rattle.std.proofs.Common.{◌≡◌, ◌+◌, ◌++◌, length, map}
 use Rattle.aa_explain_diff.specs.Features.{seen_feature}
-use Rattle.aa_profile_access.specs.SeenRequests.{request_of}
+use Rattle.aa_profile_data.specs.SeenRequests.{request_of}
 use Rattle.aatry_shared.specs.PartFeatures.{covering_from}
 use Rattle.aatry_shared.proofs.part_features.covering_features.Given as goal
 

@@ -2,7 +2,7 @@ use Rattle.std.proofs.Common.{rules, ◌≡◌, ◌∙◌, [], ◌∷◌, ◌++�
 use Rattle.std.proofs.lemmas.List.{length-map}
 use Rattle.std.proofs.lemmas.Result.{err_from_is_err_and}
 use Rattle.std.specs.Vec.Iter.{into_iter_items}
-use Rattle.aaset_start.specs.Gathering.{texts_of}
+use Rattle.aa_start.specs.Gathering.{texts_of}
 use Rattle.aatry_test.specs.Below.{IsFileTested, TestsEach}
 use Rattle.aatry_test.specs.SeenTests.{seen_tests}
 use Rattle.aatry_test.proofs.BelowLemmas.{tests_all, tests_one_more}

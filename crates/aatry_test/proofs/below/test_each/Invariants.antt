@@ -1,6 +1,6 @@
 use Rattle.std.proofs.Common.{◌≡◌, ◌++◌, ◌≤◌, ◌+◌, ℕ, List, length, map, string_bytes, vec_len}
 use Rattle.std.specs.Vec.Iter.{into_iter_items}
-use Rattle.aaset_start.specs.Gathering.{texts_of}
+use Rattle.aa_start.specs.Gathering.{texts_of}
 use Rattle.aatry_test.specs.Below.{Came, TestsEach, and_then}
 use Rattle.aatry_test.specs.SeenTests.{seen_tests}
 use Rattle.aatry_test.proofs.below.test_each.Given as goal

@@ -1,6 +1,6 @@
 use Rattle.std.proofs.Common.{◌∙◌, ◌++◌, ap}
 use Rattle.std.proofs.lemmas.Result.{on_ok_weaker}
-use Rattle.aatry_assertions.specs.Running.{seen_asserted}
+use Rattle.aatry_test.specs.Running.{seen_asserted}
 use Rattle.aatry_transcripts.specs.Transcripts.{texts}
 use Rattle.aatry_test.proofs.CompareLemmas.{counts-are, counts_with, failure-is}
 use Rattle.aatry_test.proofs.comparing.push_failure.Goals as goal

@@ -1,5 +1,5 @@
 use Rattle.std.proofs.Common.{◌≡◌, ◌++◌, ◌∷◌, [], ◌∙◌, ap, append_assoc, sym}
-use Rattle.aa_set_lines.specs.Lines.{lines}
+use Rattle.aa_set_commands.specs.Lines.{lines}
 use Rattle.aatry_transcripts.specs.Transcripts.{texts}
 use Rattle.std.proofs.lemmas.List.{map-append}
 use Rattle.aatry_transcripts.proofs.LineLemmas.{lines-front, lines-last}

@@ -1,5 +1,5 @@
 use Rattle.std.proofs.Common.{◌≡◌, ◌++◌, length}
-use Rattle.aa_set_lines.specs.Lines.{lines}
+use Rattle.aa_set_commands.specs.Lines.{lines}
 use Rattle.aatry_transcripts.specs.Transcripts.{texts}
 use Rattle.aatry_transcripts.proofs.lines.lines_of.Given as goal
 

@@ -1,5 +1,5 @@
 use Rattle.std.proofs.Common.{◌≡◌, ◌++◌, length}
-use Rattle.aa_decide_slots.specs.Slots.{filled}
+use Rattle.aa_decide_ready.specs.Slots.{filled}
 use Rattle.aatry_who.specs.Letting.{who_lines}
 use Rattle.aatry_who.specs.Sought.{seen_sought}
 use Rattle.aatry_who.proofs.letting.push_slots.Given as goal

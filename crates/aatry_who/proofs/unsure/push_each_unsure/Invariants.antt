@@ -1,5 +1,5 @@
 use Rattle.std.proofs.Common.{◌≡◌, ◌++◌, length}
-use Rattle.aa_decide_slots.specs.Slots.{filled}
+use Rattle.aa_decide_ready.specs.Slots.{filled}
 use Rattle.aatry_uncertain.specs.SeenHeads.{all_left_out}
 use Rattle.aatry_who.specs.Unsure.{unsure_lines}
 use Rattle.aatry_who.proofs.unsure.push_each_unsure.Given as goal

@@ -1,6 +1,6 @@
 use Rattle.std.proofs.Common.{◌≡◌, ◌++◌, length}
-use Rattle.aa_decide_slots.specs.Slots.{filled}
-use Rattle.aa_profile_access.specs.Stacks.{parts_of}
+use Rattle.aa_decide_ready.specs.Slots.{filled}
+use Rattle.aa_profile_data.specs.Stacks.{parts_of}
 use Rattle.aatry_uncertain.specs.SeenHeads.{all_left_out}
 use Rattle.aatry_why.specs.Targets.{told_of_names}
 use Rattle.aatry_why.proofs.targets.push_members.Given as goal

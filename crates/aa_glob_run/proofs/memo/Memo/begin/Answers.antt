@@ -1,7 +1,7 @@
 use Rattle.std.proofs.Common.{[], length, subst, sym}
 use Rattle.aa_glob_nfa.specs.OfTables.{graph_of}
-use Rattle.aa_glob_front.specs.Fronts.{IsLive}
-use Rattle.aa_glob_front.specs.Runs.{IsWhole}
+use Rattle.aa_glob_nfa.specs.Fronts.{IsLive}
+use Rattle.aa_glob_nfa.specs.Runs.{IsWhole}
 use Rattle.aa_glob_run.proofs.MemoLemmas.{memo-added}
 use Rattle.aa_glob_run.specs.code.Memos.{fronts_in}
 use Rattle.aa_glob_run.proofs.memo.Memo.begin.Goals as goal

@@ -1,7 +1,7 @@
 use Rattle.std.proofs.Common.{length, subst, sym}
 use Rattle.aa_glob_nfa.specs.OfTables.{graph_of}
-use Rattle.aa_glob_front.specs.Fronts.{IsLive}
-use Rattle.aa_glob_front.specs.Runs.{LeadsTo}
+use Rattle.aa_glob_nfa.specs.Fronts.{IsLive}
+use Rattle.aa_glob_nfa.specs.Runs.{LeadsTo}
 use Rattle.aa_glob_run.proofs.memo.Memo.learn.Goals as goal
 
 pub returns-then-is_full-clause-memo : goal.returns-then-is_full-clause-memo

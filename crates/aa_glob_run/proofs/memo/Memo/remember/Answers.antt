@@ -1,6 +1,6 @@
 use Rattle.std.proofs.Common.{subst, sym, arith}
 use Rattle.aa_glob_run.proofs.MemoLemmas.{memo-note}
-use Rattle.aa_glob_front.specs.Runs.{LeadsTo}
+use Rattle.aa_glob_nfa.specs.Runs.{LeadsTo}
 use Rattle.aa_glob_run.specs.code.Memos.{fronts_in, front_at}
 use Rattle.aa_glob_run.proofs.memo.Memo.remember.Goals as goal
 

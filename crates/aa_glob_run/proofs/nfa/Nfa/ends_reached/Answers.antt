@@ -1,8 +1,8 @@
 use Rattle.std.proofs.Common.{◌≡◌, ◌+◌, ◌*◌, length, ◌∙◌, ap, sym, subst}
 use Rattle.std.specs.Prelude.{IfOk, OnOk}
 use Rattle.aa_glob_nfa.specs.Graphs.{Graph, IsFound, Reaches}
-use Rattle.aa_glob_front.specs.Steps.{IsCounted}
-use Rattle.aa_glob_front.specs.Visits.{CountsAllVisits}
+use Rattle.aa_glob_nfa.specs.Steps.{IsCounted}
+use Rattle.aa_glob_nfa.specs.Visits.{CountsAllVisits}
 use Rattle.aa_glob_nfa.proofs.TableLemmas.{length-entries_in}
 use Rattle.aa_glob_run.proofs.nfa.Nfa.ends_reached.Goals as goal
 

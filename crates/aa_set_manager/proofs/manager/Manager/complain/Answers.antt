@@ -1,7 +1,7 @@
 use Rattle.std.proofs.Common.{◌≡◌, true, [], Ok, IfErr, OnOk, sym, ap, subst, ◌∙◌}
-use Rattle.aa_decide_slots.specs.Slots.{filled}
+use Rattle.aa_decide_ready.specs.Slots.{filled}
 use Rattle.aa_profile_data.specs.declared.profile.Mode.TheVariants.{Complain as ComplainMode}
-use Rattle.aa_set_changes.specs.Changes.{is_loaded, with_mode}
+use Rattle.aa_set_manager.specs.Changes.{is_loaded, with_mode}
 use Rattle.aa_set_commands.specs.Command.{Complain}
 use Rattle.aa_set_commands.specs.Refusal.{IsRefusalOf, plain}
 use Rattle.aa_set_commands.specs.declared.refusal.RefusalKind.TheVariants.{Memory}

@@ -1,6 +1,6 @@
 use Rattle.std.proofs.Common.{◌≡◌, true, false, [], Ok, IfErr, OnOk, sym, ap, subst, ◌∙◌}
-use Rattle.aa_decide_slots.specs.Slots.{filled}
-use Rattle.aa_set_changes.specs.Changes.{is_disabled, is_loaded, with_disabled}
+use Rattle.aa_decide_ready.specs.Slots.{filled}
+use Rattle.aa_set_manager.specs.Changes.{is_disabled, is_loaded, with_disabled}
 use Rattle.aa_set_commands.specs.Command.{Disable}
 use Rattle.aa_set_commands.specs.Refusal.{IsRefusalOf, plain}
 use Rattle.aa_set_commands.specs.declared.refusal.RefusalKind.TheVariants.{Memory}

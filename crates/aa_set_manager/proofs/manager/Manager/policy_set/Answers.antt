@@ -1,5 +1,5 @@
 use Rattle.std.proofs.Common.{ap, ◌∙◌}
-use Rattle.aa_decide_slots.specs.Named.{have_distinct_names}
+use Rattle.aa_decide_ready.specs.Named.{have_distinct_names}
 use Rattle.aa_set_manager.specs.Manager.{Managed}
 use Rattle.aa_set_manager.proofs.ManagerLemmas.{entries-seen, now-distinct}
 use Rattle.aa_set_manager.proofs.manager.Manager.policy_set.Goals as goal

@@ -1,9 +1,9 @@
 use Rattle.std.proofs.Common.{◌≡◌, length, List, Ok, Err, IfErr, OnOk, sym, ap, subst, ◌∙◌}
-use Rattle.aa_decide_slots.specs.Named.{have_distinct_names}
-use Rattle.aa_decide_slots.specs.Slots.{filled}
+use Rattle.aa_decide_ready.specs.Named.{have_distinct_names}
+use Rattle.aa_decide_ready.specs.Slots.{filled}
 use Rattle.aa_profile.specs.FileReading.{file_profiles_in}
 use Rattle.aa_profile_data.specs.declared.profile.Profile.{Profile}
-use Rattle.aa_set_changes.specs.Changes.{by_file, profile_count, with_removed}
+use Rattle.aa_set_manager.specs.Changes.{by_file, profile_count, with_removed}
 use Rattle.aa_set_commands.specs.Command.{Remove}
 use Rattle.aa_set_commands.specs.Refusal.{IsRefusalOf}
 use Rattle.aa_set_parts.specs.Parts.{after}

@@ -1,9 +1,9 @@
 use Rattle.std.proofs.Common.{◌≡◌, length, true, Ok, Err, IfErr, IfOk, OnOk, subst}
 use Rattle.std.specs.List.{list_all}
-use Rattle.aa_decide_slots.specs.Slots.{filled}
+use Rattle.aa_decide_ready.specs.Slots.{filled}
 use Rattle.aa_profile_data.specs.Conflicts.{profile_agrees}
 use Rattle.aa_profile_data.specs.Profile.{are_distinct}
-use Rattle.aa_set_changes.specs.Changes.{with_replaced}
+use Rattle.aa_set_manager.specs.Changes.{with_replaced}
 use Rattle.aa_set_commands.specs.Command.{Replace}
 use Rattle.aa_set_commands.specs.Refusal.{IsRefusalOf}
 use Rattle.aa_set_parts.specs.Parts.{after}

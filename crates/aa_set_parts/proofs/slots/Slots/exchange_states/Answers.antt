@@ -1,7 +1,7 @@
 use Rattle.std.proofs.Common.{Option, None, Some, ap, ◌∙◌}
 use Rattle.std.specs.List.{list_all}
 use Rattle.std.specs.Option.{IfSome}
-use Rattle.aa_decide_slots.proofs.SameLemmas.{same-index, same-names}
+use Rattle.aa_decide_ready.proofs.SameLemmas.{same-index, same-names}
 use Rattle.aa_set_parts.specs.Parts.{is_state}
 use Rattle.aa_set_parts.proofs.slots.Slots.exchange_states.Goals as goal
 

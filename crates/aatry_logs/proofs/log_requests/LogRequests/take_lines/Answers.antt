@@ -1,6 +1,6 @@
 use Rattle.std.proofs.Common.{◌≡◌, ◌∙◌, ◌++◌, ◌∷◌, [], ap, ap₂, arith, inl, inr, length, option_map, subst, sym}
 use Rattle.std.proofs.lemmas.Result.{err_from_is_err_and}
-use Rattle.aatry_input.specs.Inputs.{GivesLine}
+use Rattle.aatry_logs.specs.OpenedInputs.{GivesLine}
 use Rattle.aatry_log_lines.specs.Selections.{seen_selection}
 use Rattle.aatry_logs.specs.Compressed.{is_compressed}
 use Rattle.aatry_logs.specs.LogRequests.{seen_logs, with_line, with_lines}

@@ -1,6 +1,6 @@
 use Rattle.std.proofs.Common.{◌≡◌, ◌≤◌, ◌+◌, ℕ, false, List, length, option_map}
 use Rattle.std.specs.Prelude.{◌*◌}
-use Rattle.aatry_input.specs.Inputs.{most_reads}
+use Rattle.aatry_logs.specs.OpenedInputs.{most_reads}
 use Rattle.aatry_log_lines.specs.Selections.{seen_selection}
 use Rattle.aatry_logs.specs.Compressed.{begin_compressed}
 use Rattle.aatry_logs.specs.Inputs.{AreGiven}

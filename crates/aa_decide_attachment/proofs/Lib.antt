@@ -1,3 +1,0 @@
-pub mod BeginningLemmas
-pub mod MatchingLemmas
-pub mod RankLemmas

@@ -1,5 +1,0 @@
-use Rattle.aa_decide_attachment.proofs.BeginningLemmas.{rank-least}
-use Rattle.aa_decide_attachment.proofs.laws.exact_patterns_rank_highest.Goals as goal
-
-pub returns : goal.returns
-returns c = rank-least

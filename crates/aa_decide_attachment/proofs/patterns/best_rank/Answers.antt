@@ -1,6 +1,0 @@
-use Rattle.std.proofs.Common.{◌∙◌}
-use Rattle.aa_decide_attachment.proofs.MatchingLemmas.{best-matching}
-use Rattle.aa_decide_attachment.proofs.patterns.best_rank.Goals as goal
-
-pub returns : goal.returns
-returns c path are = c.best_among.ensures ∙ best-matching c.args.patterns.now path c.args.places.now are

@@ -1,4 +1,0 @@
-pub mod RankLaws
-pub mod Ranks
-pub mod StandingOut
-pub mod code

@@ -1,2 +1,0 @@
--- What is about the code: ranks of patterns that match.
-pub mod MatchingRanks

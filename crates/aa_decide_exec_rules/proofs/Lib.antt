@@ -1,3 +1,0 @@
-pub mod AgreementLemmas
-mod OrderLemmas
-pub mod SaidLemmas

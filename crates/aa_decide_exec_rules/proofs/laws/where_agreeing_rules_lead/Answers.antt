@@ -1,5 +1,0 @@
-use Rattle.aa_decide_exec_rules.proofs.AgreementLemmas.{lead-one_way}
-use Rattle.aa_decide_exec_rules.proofs.laws.where_agreeing_rules_lead.Goals as goal
-
-pub returns : goal.returns
-returns c = lead-one_way c.how_overlaps_are_tested.ensures

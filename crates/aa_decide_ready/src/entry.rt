@@ -1,0 +1,125 @@
+//! Loaded profiles with their states.
+
+ghost use Rattle.std.specs.Prelude.{◌≡◌, true};
+ghost use Rattle.aa_decide_ready.specs.Entries.{fits, is_in_force, state_left, with_state};
+
+use crate::ready::Ready;
+use aa_bytes::Sequence;
+use aa_profile_data::{Mode, Profile};
+use std::alloc::Global;
+use std::marker::Model;
+use std::mem;
+
+/// The state of a loaded profile.
+#[derive(Drop)]
+pub enum State {
+    /// The profile and its children are out of force.
+    Disabled,
+    /// They are in force: in the first mode the profile, and in one each its children and hats, in their order.
+    Modes(Sequence<Mode>),
+}
+
+/// A loaded profile with its state, which has a mode for the profile and for each of its children and hats.
+pub struct Entry {
+    ready: Ready,
+    state: State,
+}
+
+impl Drop for Entry {
+    // Proved here, once for all crates that own one.
+    fn drop(self) {
+        let Entry { ready, state } = self;
+        drop(ready);
+        drop(state);
+    }
+}
+
+impl Model for Entry {
+    ghost use Rattle.std.specs.Prelude.{IsTrue};
+    ghost use Rattle.aa_decide_ready.specs.Entries.{Loaded, fits};
+
+    ghost Value = { Loaded };
+
+    ghost view = { λ e. record { profile = e.ready; state = e.state } };
+
+    ghost invariant = { λ e. IsTrue (fits e.ready e.state) };
+}
+
+impl State {
+    /// Whether it is a state in force. It takes no memory.
+    pub fn is_in_force(&self) -> bool
+        ensures { result ≡ is_in_force self.now }
+    {
+        match self {
+            State::Disabled => false,
+            State::Modes(_) => true,
+        }
+    }
+
+    /// Whether it fits a profile: it is out of force, or has a mode for the profile and for each of its children and hats. It takes no memory.
+    pub fn fits(&self, profile: &Profile) -> bool
+        ensures { result ≡ fits profile.now self.now }
+    {
+        match self {
+            State::Disabled => true,
+            State::Modes(modes) => modes.as_slice().len() == profile.children.as_slice().len() + 1,
+        }
+    }
+}
+
+impl Entry {
+    /// A profile in a state that fits it. It takes no memory.
+    pub fn new(ready: Ready, state: State) -> Entry
+        requires { fits ready state ≡ true }
+        ensures { result ≡ record { profile = ready; state = state } }
+    {
+        Entry { ready, state }
+    }
+
+    /// The profile.
+    pub fn profile(&self) -> &Profile
+        ensures { result.now ≡ self.now.profile }
+    {
+        &self.ready.profile
+    }
+
+    /// The profile, ready for requests.
+    pub fn ready(&self) -> &Ready
+        ensures { result.now ≡ self.now.profile }
+    {
+        &self.ready
+    }
+
+    /// The state. It fits the profile.
+    pub fn state(&self) -> &State
+        ensures state { result.now ≡ self.now.state }
+        ensures fits { fits self.now.profile result.now ≡ true }
+    {
+        &self.state
+    }
+
+    /// Exchanges the state for another, which then holds the one from before. One that doesn't fit the profile is left,
+    /// and so is the entry. It takes no memory.
+    pub fn exchange_state(&mut self, state: &mut State)
+        ensures entry { self.new ≡ with_state state.old self.old }
+        ensures state { state.new ≡ state_left state.old self.old }
+    {
+        if state.fits(&self.ready.profile) {
+            mem::swap(&mut self.state, state);
+        }
+    }
+
+    /// Remembers what follows at the places of a path, and tells whether all of it is remembered now (`Ready::remember`).
+    pub fn remember(&mut self, alloc: Global, child: Option<usize>, path: &[u8]) -> bool
+        ensures { self.new ≡ self.old }
+    {
+        self.ready.remember(alloc, child, path)
+    }
+
+    /// Forgets what was remembered, of the profile or of its child or hat at a place.
+    pub fn forget(&mut self, alloc: Global, child: Option<usize>)
+        ensures { self.new ≡ self.old }
+    {
+        self.ready.forget(alloc, child);
+    }
+}

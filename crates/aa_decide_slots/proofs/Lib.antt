@@ -1,4 +1,0 @@
-pub mod AttachmentLemmas
-pub mod FindLemmas
-pub mod NameLemmas
-pub mod SameLemmas

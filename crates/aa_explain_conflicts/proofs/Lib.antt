@@ -1,3 +1,0 @@
-mod LeadLemmas
-mod ReadingLemmas
-mod VariableLemmas

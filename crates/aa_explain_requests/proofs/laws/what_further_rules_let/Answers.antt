@@ -1,5 +1,0 @@
-use Rattle.aa_explain_requests.proofs.JoinedLemmas.{allow-further}
-use Rattle.aa_explain_requests.proofs.laws.what_further_rules_let.Goals as goal
-
-pub returns : goal.returns
-returns c = allow-further

@@ -1,5 +1,0 @@
-pub mod Patterns
-pub mod Places
-pub mod StartLaws
-pub mod Starts
-pub mod code

@@ -1,2 +1,0 @@
--- What is about the code: starts that are told so far. No public contract names these.
-pub mod Telling

@@ -1,5 +1,0 @@
-use Rattle.std.proofs.Common.{[]}
-use Rattle.aa_glob_automaton.proofs.automaton.Automaton.build.Goals as goal
-
-pub returns : goal.returns
-returns c = c.finish.ensures c.args.patterns.now (c.in_ok-added.ensures [] c.in_ok-builder.ensures)

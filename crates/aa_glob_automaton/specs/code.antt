@@ -1,6 +1,0 @@
--- What the code's own forms mean. No public contract names these.
-pub mod Followed
-pub mod Growths
-pub mod Numbered
-pub mod SeenGroups
-pub mod Noted

@@ -1,0 +1,153 @@
+//! Bytes that stand for those that no state of a set tells apart from them.
+
+ghost use Rattle.std.specs.Prelude.{◌≡◌, ◌<◌, ℕ, true, length, All, Contains, OnOk};
+ghost use Rattle.aa_bytes.specs.ByteMaps.{in_map};
+ghost use Rattle.aa_glob_nfa.specs.Entries.{takes_byte};
+ghost use Rattle.aa_glob_nfa.specs.Graphs.{Leads, entry_of};
+ghost use Rattle.aa_glob_nfa.specs.OfTables.{AreSound, AreSorted, graph_of};
+ghost use Rattle.aa_glob_nfa.specs.Tables.{IsWay, LeadsAway, LeadsOn};
+ghost use Rattle.aa_glob_paths.specs.Alike.{StandForAll, StandForAllFrom};
+ghost use Rattle.aa_glob_paths.specs.code.Told.{ArePicked, HasEnds, KeepsTold, TellsEntry, TellsSet, TellsWays};
+
+use aa_bytes::ByteMap;
+use aa_glob_nfa::{Gate, Tables, Way};
+use std::alloc::AllocError;
+
+// Puts those of some bytes into a set of bytes that lead into a state.
+fn tell_taken(tables: &Tables, bytes: &[u8], number: u32, told: &mut ByteMap)
+    requires sound { AreSound tables.now }
+    requires is_state { number < length tables.now.states }
+    ensures keeps { KeepsTold told.old told.new }
+    ensures taken { (c : ℕ) → Contains bytes.now c → takes_byte (entry_of (graph_of tables.now) number) c ≡ true → in_map told.new c ≡ true }
+{
+    for byte in bytes {
+        if tables.takes_if(number, Some(*byte)) {
+            told.insert(*byte);
+        }
+    }
+}
+
+// Puts those of some bytes into a set of bytes that lead into a state where others don't. Zero and `/` are in it already.
+fn tell_entry(tables: &Tables, bytes: &[u8], number: u32, told: &mut ByteMap)
+    requires sound { AreSound tables.now }
+    requires is_state { number < length tables.now.states }
+    requires ends { HasEnds told.old }
+    ensures keeps { KeepsTold told.old told.new }
+    ensures tells { TellsEntry (graph_of tables.now) bytes.now told.new number }
+{
+    match tables.states.gate(number) {
+        Gate::Byte(byte) => told.insert(byte),
+        Gate::Class => tell_taken(tables, bytes, number, told),
+        Gate::Free | Gate::Inside | Gate::Star | Gate::DoubleStar => {}
+    }
+}
+
+// The same of the state that a way leads on to from another, if one does.
+fn tell_on(tables: &Tables, bytes: &[u8], from: u32, told: &mut ByteMap)
+    requires sound { AreSound tables.now }
+    requires is_state { from < length tables.now.states }
+    requires ends { HasEnds told.old }
+    ensures keeps { KeepsTold told.old told.new }
+    ensures tells { TellsWays (LeadsOn tables.now.states from) (graph_of tables.now) bytes.now told.new }
+{
+    if tables.states.leads_on(from) {
+        tell_entry(tables, bytes, from + 1, told);
+    }
+}
+
+// The same of the states that some ways lead to from another.
+fn tell_by(tables: &Tables, bytes: &[u8], ways: &[Way], from: u32, told: &mut ByteMap)
+    requires sound { AreSound tables.now }
+    requires each { All (IsWay tables.now.states) ways.now }
+    requires ends { HasEnds told.old }
+    ensures keeps { KeepsTold told.old told.new }
+    ensures tells { TellsWays (LeadsAway ways.now from) (graph_of tables.now) bytes.now told.new }
+{
+    for way in ways {
+        if way.from == from {
+            tell_entry(tables, bytes, way.to, told);
+        }
+    }
+}
+
+// The same of the states that ways of the table lead to from another.
+fn tell_away(tables: &Tables, bytes: &[u8], from: u32, told: &mut ByteMap)
+    requires sound { AreSound tables.now }
+    requires sorted { AreSorted tables.now }
+    requires is_state { from < length tables.now.states }
+    requires ends { HasEnds told.old }
+    ensures keeps { KeepsTold told.old told.new }
+    ensures tells { TellsWays (LeadsAway tables.now.ways.items from) (graph_of tables.now) bytes.now told.new }
+{
+    if tables.states.leads_away(from) {
+        tell_by(tables, bytes, tables.ways_around(from), from, told);
+    }
+}
+
+// The same of all states that ways lead to from another.
+fn tell_ways(tables: &Tables, bytes: &[u8], from: u32, told: &mut ByteMap)
+    requires sound { AreSound tables.now }
+    requires sorted { AreSorted tables.now }
+    requires is_state { from < length tables.now.states }
+    requires ends { HasEnds told.old }
+    ensures keeps { KeepsTold told.old told.new }
+    ensures tells { TellsWays (Leads (graph_of tables.now) from) (graph_of tables.now) bytes.now told.new }
+{
+    tell_on(tables, bytes, from, told);
+    tell_away(tables, bytes, from, told);
+}
+
+// A set of bytes that has each of some bytes that the states of a set tell apart from another.
+fn told_by(tables: &Tables, bytes: &[u8], set: &[u32]) -> ByteMap
+    requires sound { AreSound tables.now }
+    requires sorted { AreSorted tables.now }
+    requires are_states { All (λ r. r < length tables.now.states) set.now }
+    ensures ends { HasEnds result }
+    ensures tells { TellsSet (graph_of tables.now) bytes.now result set.now }
+{
+    let mut told = ByteMap::new();
+    told.insert(0);
+    told.insert(b'/');
+    for state in set {
+        tell_ways(tables, bytes, *state, &mut told);
+    }
+    told
+}
+
+// Puts those of some bytes that are told, and the first one that isn't, in place of others.
+fn pick(bytes: &[u8], told: &ByteMap, own: &mut Vec<u8>) -> Result<(), AllocError>
+    ensures { OnOk result (ArePicked bytes.now told.now own.new.items) }
+{
+    own.clear();
+    let mut has_untold = false;
+    for byte in bytes {
+        let is_told = told.has(*byte);
+        if is_told || !has_untold {
+            own.push(*byte)?;
+        }
+        has_untold = has_untold || !is_told;
+    }
+    Ok(())
+}
+
+/// Puts those of some bytes, which stand for all, that stand for all behind the texts of a set in place of others: to each byte one of them is alike,
+/// as far as its states tell bytes apart. They stand in the order of the others. It goes over the set once.
+///
+/// # Errors
+///
+/// Where memory runs out. Which bytes there are then is not said.
+pub fn bytes_for_set(
+    tables: &Tables,
+    bytes: &[u8],
+    set: &[u32],
+    own: &mut Vec<u8>,
+) -> Result<(), AllocError>
+    requires sound { AreSound tables.now }
+    requires sorted { AreSorted tables.now }
+    requires are_states { All (λ r. r < length tables.now.states) set.now }
+    requires bytes { StandForAll (graph_of tables.now) bytes.now }
+    ensures { OnOk result (StandForAllFrom (graph_of tables.now) set.now own.new.items) }
+{
+    let told = told_by(tables, bytes, set);
+    pick(bytes, &told, own)
+}

@@ -1,9 +1,0 @@
-pub mod AlikeLemmas
-pub mod FoundLemmas
-pub mod LiveLemmas
-pub mod PlaceLemmas
-pub mod RisingLemmas
-pub mod SettledLemmas
-pub mod TextLemmas
-pub mod ToldLemmas
-pub mod WantedLemmas

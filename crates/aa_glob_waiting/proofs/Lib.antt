@@ -1,3 +1,0 @@
-pub mod EncodingLemmas
-pub mod GainLemmas
-pub mod RowLemmas

@@ -1,2 +1,0 @@
--- How pairs that wait are kept.
-pub mod Encoding

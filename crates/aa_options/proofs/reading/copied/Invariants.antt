@@ -1,6 +1,0 @@
-use Rattle.std.proofs.Common.{◌≡◌, take}
-use Rattle.aa_options.specs.Texts.{texts, words_of}
-use Rattle.aa_options.proofs.reading.copied.Given as goal
-
-abbrev pub invariant-loop-text : goal.invariant-loop-text
-invariant-loop-text l = texts l.copies ≡ words_of (take l.text-index l.given)

@@ -1,5 +1,0 @@
-use Rattle.aa_profile_flags.proofs.FlagRefusalLemmas.{faults-are_the_first}
-use Rattle.aa_profile_flags.proofs.laws.where_flags_are_refused.Goals as goal
-
-pub returns : goal.returns
-returns c = faults-are_the_first

@@ -1,2 +1,0 @@
-pub mod AllLemmas
-pub mod ProfileLemmas

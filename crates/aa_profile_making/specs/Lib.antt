@@ -1,2 +1,0 @@
-pub mod Plainness
-pub mod Profiles

@@ -1,5 +1,0 @@
-pub mod Capabilities
-pub mod Domains
-pub mod Kinds
-pub mod KnownNumbers
-pub mod Names

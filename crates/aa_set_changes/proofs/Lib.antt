@@ -1,3 +1,0 @@
-pub mod NameLemmas
-pub mod PartLemmas
-pub mod PlaceLemmas

@@ -1,5 +1,0 @@
-use Rattle.aa_set_changes.proofs.NameLemmas.{changes-keep}
-use Rattle.aa_set_changes.proofs.laws.what_changes_keep.Goals as goal
-
-pub returns : goal.returns
-returns c = changes-keep c.how_profiles_are_named.ensures.no_two_profiles_have_one_name

@@ -1,7 +1,0 @@
-use Rattle.std.proofs.Common.{◌≡◌, ◌++◌, drop}
-use Rattle.aa_set_changes.specs.code.Places.{emptying}
-use Rattle.aa_set_changes.proofs.loading.emptying.Given as goal
-
--- the parts so far, and those of the slots that are left, are all
-abbrev pub invariant-loop-slot : goal.invariant-loop-slot
-invariant-loop-slot l = l.parts.items ++ emptying (drop l.slot-index l.found) ≡ emptying l.found

@@ -1,3 +1,0 @@
-pub mod ChangeLaws
-pub mod Changes
-pub mod code

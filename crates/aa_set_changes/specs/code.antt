@@ -1,2 +1,0 @@
--- What is about the code: the slots that a change exchanges, and its parts.
-pub mod Places

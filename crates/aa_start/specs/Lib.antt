@@ -1,0 +1,14 @@
+pub mod Arguments
+pub mod CommandLine
+pub mod Gathering
+pub mod Given
+pub mod Known
+pub mod Lines
+pub mod Names
+pub mod Options
+pub mod Parsing
+pub mod Plan
+pub mod Readable
+pub mod Reading
+pub mod Rows
+pub mod Texts

@@ -1,3 +1,0 @@
-pub mod SeenTokens
-pub mod Splicing
-pub mod code

@@ -1,2 +1,0 @@
--- What is about the code: how far the splicing of files has come.
-pub mod SplicingProgress

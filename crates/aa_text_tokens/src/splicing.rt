@@ -1,0 +1,47 @@
+//! The tokens of a file, with those of the files that it includes in the place of each Include.
+
+ghost use Rattle.std.specs.Prelude.{◌≡◌, ◌≢◌, true, is_some, map, None, Ok, Err, IfOk, IfErr};
+ghost use Rattle.aa_text_files.specs.Files.{file_at};
+ghost use Rattle.aa_text_files.specs.declared.text_error.TextRefusal.TheVariants.{Memory};
+ghost use Rattle.aa_text_tokens.specs.Splicing.{spliced};
+ghost use Rattle.aa_text_tokens.specs.SeenSplicedTokens.{seen_spliced};
+
+use crate::spliced_token::Spliced;
+use crate::splicer::Splicer;
+use aa_text_files::{Files, TextError, TextRefusal};
+use std::alloc::Global;
+
+/// How deep includes may stand in one another.
+pub const DEEPEST: usize = 16;
+
+/// The tokens of the file of that name, with those of the files that it includes in the place of each Include.
+///
+/// # Errors
+///
+/// The first fault: those of a file's own text come before any of what it includes, and else one Include is read before the next.
+/// - `NoFile`: no file has the name, with no place; or nothing has the name of an Include without `if exists`, at the Include.
+/// - `TextTooBig`: more than 16,777,216 bytes are entered, each file's as often as it is. It is told at the Include that enters the
+///   file, and with no place where the first file alone has more.
+/// - `ZeroByte`: a file holds one, at the first.
+/// - `OpenQuote` and `OpenOther`: a file can't be cut into tokens, at the first such place.
+/// - `IncludeDepth`: an Include stands in 16 others, unless it puts in nothing.
+/// - `Memory`, with no place: memory ran out. That no file has the name is told without memory.
+pub fn spliced<'a>(
+    alloc: Global,
+    files: &'a Files,
+    name: &[u8],
+) -> Result<Vec<Spliced<'a>>, TextError>
+    ensures ok { IfOk result (λ all. spliced files.now name.now ≡ Ok (map seen_spliced all.items)) }
+    ensures refused { IfErr result (λ error. error.refusal ≢ Memory → spliced files.now name.now ≡ Err (error.refusal, error.place)) }
+    ensures memory { IfErr result (λ error. error.refusal ≡ Memory → (error.place ≡ None) × (is_some (file_at files.now name.now) ≡ true)) }
+{
+    let Some(file) = files.position(name) else {
+        return Err(TextError {
+            refusal: TextRefusal::NoFile,
+            place: None,
+        });
+    };
+    let mut splicer = Splicer::new(alloc, files);
+    splicer.enter(DEEPEST, file, None)?;
+    Ok(splicer.into_tokens())
+}

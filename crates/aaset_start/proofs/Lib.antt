@@ -1,6 +1,0 @@
-mod GatheringLemmas
-mod LawLemmas
-mod NameLemmas
-mod ReadableLemmas
-mod ReadingLemmas
-mod RunLemmas

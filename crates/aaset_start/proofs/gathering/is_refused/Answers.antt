@@ -1,6 +1,0 @@
-use Rattle.std.proofs.Common.{◌∙◌}
-use Rattle.aaset_start.proofs.NameLemmas.{has_file-names}
-use Rattle.aaset_start.proofs.gathering.is_refused.Goals as goal
-
-pub returns-else-is_bad_name : goal.returns-else-is_bad_name
-returns-else-is_bad_name c = rw (← c.if-is_bad_name.ensures) (c.has.ensures ∙ has_file-names c.args.files.now c.args.name.now)

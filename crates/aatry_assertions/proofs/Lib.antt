@@ -1,2 +1,0 @@
-pub mod HoldLemmas
-pub mod RunningLemmas

@@ -1,2 +1,0 @@
-pub mod Colors
-pub mod Wishes

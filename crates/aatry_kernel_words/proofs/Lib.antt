@@ -1,3 +1,0 @@
-mod LetterLemmas
-mod MaskLemmas
-mod NameLemmas

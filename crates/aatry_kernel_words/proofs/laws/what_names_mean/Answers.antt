@@ -1,8 +1,0 @@
-use Rattle.aatry_kernel_words.proofs.NameLemmas.{means-no_other, names-mean}
-use Rattle.aatry_kernel_words.proofs.laws.what_names_mean.Goals as goal
-
-pub returns-clause-written : goal.returns-clause-written
-returns-clause-written c = names-mean
-
-pub returns-clause-others : goal.returns-clause-others
-returns-clause-others c = means-no_other

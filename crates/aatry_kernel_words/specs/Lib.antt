@@ -1,3 +1,0 @@
-pub mod Capabilities
-pub mod Laws
-pub mod Masks

@@ -1,2 +1,0 @@
-mod LawLemmas
-mod WantedLemmas

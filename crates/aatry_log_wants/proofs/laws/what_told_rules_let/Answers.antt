@@ -1,5 +1,0 @@
-use Rattle.aatry_log_wants.proofs.LawLemmas.{served}
-use Rattle.aatry_log_wants.proofs.laws.what_told_rules_let.Goals as goal
-
-pub returns : goal.returns
-returns c = served c.what_joined_requests_let.ensures.its_rule_lets_each c.what_texts_tell.ensures

@@ -1,5 +1,0 @@
-use Rattle.aatry_near.proofs.NearLemmas.{nearest_is}
-use Rattle.aatry_near.proofs.laws.which_name_is_nearest.Goals as goal
-
-pub returns : goal.returns
-returns c = nearest_is

@@ -1,3 +1,0 @@
-pub mod Near
-pub mod Paths
-pub mod code

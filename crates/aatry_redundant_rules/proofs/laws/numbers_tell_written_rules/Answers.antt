@@ -1,5 +1,0 @@
-use Rattle.aatry_redundant_rules.proofs.NumberLemmas.{numbers-tell}
-use Rattle.aatry_redundant_rules.proofs.laws.numbers_tell_written_rules.Goals as goal
-
-pub returns : goal.returns
-returns c = numbers-tell

@@ -1,4 +1,0 @@
-pub mod Finding
-pub mod Laws
-pub mod SeenWhich
-pub mod Written

@@ -1,9 +1,0 @@
-//! When two rules were made of one written rule, as a law over the definitions that the calls are proved to follow.
-
-ghost use Rattle.aatry_redundant_rules.specs.Laws.{NumbersTellWrittenRules};
-
-/// Rules have the same number of a written rule exactly where they are one, or stand at one place, as far as that is
-/// known.
-pub fn numbers_tell_written_rules()
-    ensures { NumbersTellWrittenRules }
-{}

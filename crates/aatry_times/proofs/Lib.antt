@@ -1,2 +1,0 @@
-mod CalendarLemmas
-mod MomentLemmas

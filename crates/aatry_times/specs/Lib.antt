@@ -1,4 +1,0 @@
-pub mod Moments
-pub mod Named
-pub mod Numbers
-pub mod Told

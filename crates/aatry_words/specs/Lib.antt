@@ -1,0 +1,10 @@
+pub mod Capabilities
+pub mod Laws
+pub mod Masks
+pub mod Moments
+pub mod Named
+pub mod Near
+pub mod Numbers
+pub mod Paths
+pub mod Told
+pub mod code
