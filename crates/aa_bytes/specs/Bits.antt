@@ -1,4 +1,4 @@
--- Bits, of which each stands for a number: in words of 64 bits, where the lowest bit of the first word stands for zero, and in a byte.
+-- Bits, each of which is that of a number: in words of 64 bits, where the lowest bit of the first word is that of zero, and in a byte.
 use Rattle.std.specs.Prelude.{ℕ, Bool, ◌==◌, ◌/◌, ◌%◌, List, slice_index}
 use Rattle.std.specs.Int.{bit_at}
 

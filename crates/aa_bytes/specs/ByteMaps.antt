@@ -1,4 +1,4 @@
--- Sets of bytes by a bit for each.
+-- Sets of bytes as bit maps.
 use Rattle.std.specs.Prelude.{ℕ, Bool}
 use Rattle.aa_bytes.specs.Bits.{has_bit}
 use Rattle.aa_bytes.specs.declared.byte_map.ByteMap.{ByteMap}

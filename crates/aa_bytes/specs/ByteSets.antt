@@ -1,4 +1,4 @@
--- Sets of bytes, of which an item stands for one (apparmor.d(5), "Globbing"). Zero is in none of them.
+-- Sets of bytes that an item of a pattern matches one of (apparmor.d(5), "Globbing"). Zero is in none of them.
 use Rattle.std.specs.Prelude.{ℕ, Bool, not, ◌==◌, ◌&&◌, nat_le, if◌then◌else◌, List}
 use Rattle.std.specs.List.{list_any}
 use Rattle.aa_bytes.specs.Bytes.{slash}
@@ -18,7 +18,7 @@ lists b range = nat_le range.first b && nat_le b range.last
 abbrev pub is_listed : ℕ → List ByteRange → Bool
 is_listed b ranges = list_any (lists b) ranges
 
--- The byte is in the set. A class that begins with `^` has all bytes but zero that it doesn't list, `/` among them.
+-- The byte is in the set. A class that begins with `^` has all bytes that it doesn't list, `/` included and zero excepted.
 abbrev pub has : ByteSet → ℕ → Bool
 has Inside b = is_inside b
 has (Class negated ranges) b = not (b == 0) && (if negated then not (is_listed b ranges) else is_listed b ranges)

@@ -1,4 +1,4 @@
--- Numbers by names: the number of each name, where it has one.
+-- Numbers looked up by name: the number of each name, where it has one.
 use Rattle.std.specs.Prelude.{◌≡◌, ℕ, if◌then◌else◌, List, Option, Some}
 use Rattle.std.specs.Map.{lookup}
 use Rattle.std.specs.Str.{bytes_eq}

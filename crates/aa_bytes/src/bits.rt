@@ -1,4 +1,4 @@
-//! Bits, each for a number: of words of 64 bits, and of a byte.
+//! Sets of bits, each bit with a number: in words of 64 bits, and in one byte.
 
 ghost use Rattle.std.specs.Prelude.{◌≡◌, ℕ, ◌*◌, ◌<◌, ◌==◌, ◌||◌, ◌&&◌, not, length};
 ghost use Rattle.aa_bytes.specs.Bits.{byte_has_bit, has_bit};
@@ -35,7 +35,7 @@ pub fn byte_has_bit(byte: u8, number: u8) -> bool
     byte & (1 << number) != 0
 }
 
-/// A byte in which the bit of a number, from 0 to 7, is set, too.
+/// The byte with the bit of a number, from 0 to 7, set as well.
 pub fn byte_with_bit(byte: u8, number: u8) -> u8
     requires { number < 8 }
     ensures { (other : ℕ) → byte_has_bit result other ≡ (other == number || byte_has_bit byte other) }

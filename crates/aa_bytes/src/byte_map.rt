@@ -1,25 +1,25 @@
-//! Sets of bytes by a bit for each.
+//! Sets of bytes as bit maps.
 
 ghost use Rattle.std.specs.Prelude.{◌≡◌, ℕ, ◌==◌, ◌||◌, false};
 ghost use Rattle.aa_bytes.specs.ByteMaps.{in_map};
 
 use crate::bits::{has_bit, set_bit};
 
-/// A set of bytes: a bit for each of the 256. Zero may be in it.
+/// A set of bytes as a bit map: one bit for each of the 256 bytes, 32 bytes in all. Zero may be in it.
 #[derive(Clone, Copy)]
 pub struct ByteMap {
     words: [u64; 4],
 }
 
 impl ByteMap {
-    /// The set without any byte.
+    /// The empty set.
     pub fn new() -> ByteMap
         ensures { (byte : ℕ) → in_map result byte ≡ false }
     {
         ByteMap { words: [0; 4] }
     }
 
-    /// Puts a byte into the set.
+    /// Adds a byte to the set.
     pub fn insert(&mut self, byte: u8)
         ensures { (other : ℕ) → in_map self.new other ≡ (other == byte || in_map self.old other) }
     {

@@ -1,11 +1,11 @@
-//! Sets of bytes, of which an item stands for one.
+//! Sets of bytes that an item of a pattern matches one of.
 
 ghost use Rattle.std.specs.Prelude.{◌≡◌};
 ghost use Rattle.aa_bytes.specs.ByteSets.{is_inside, has, is_listed, lists};
 
 use crate::sequence::Sequence;
 
-/// A member of a class: the bytes from one to another, both among them.
+/// A range of a class: the bytes from `first` to `last`, both included.
 #[derive(Clone, Copy, Debug, PartialEq, Eq)]
 pub struct ByteRange {
     /// The first byte.
@@ -19,17 +19,17 @@ pub struct ByteRange {
 pub enum ByteSet {
     /// The bytes that may stand within a segment of a path: all but `/`.
     Inside,
-    /// A class: the bytes that it lists, or the others.
+    /// A class: the bytes that it lists or, where it is negated, those that it doesn't list.
     Class {
         /// Whether the class begins with `^`, and so stands for the bytes that it doesn't list.
         negated: bool,
-        /// What it lists, in the order of the text.
+        /// The ranges that it lists, in the order of the text.
         ranges: Sequence<ByteRange>,
     },
 }
 
 impl ByteRange {
-    /// Whether the byte is among them.
+    /// Whether the byte is in the range.
     pub fn lists(self, byte: u8) -> bool
         ensures { result ≡ lists byte self }
     {
@@ -38,7 +38,7 @@ impl ByteRange {
 }
 
 impl ByteSet {
-    /// Whether the byte is in the set.
+    /// Whether the byte is in the set. It takes no memory; `O(n)` in the number of ranges of a class.
     pub fn has(&self, byte: u8) -> bool
         ensures { result ≡ has self.now byte }
     {

@@ -1,5 +1,5 @@
-//! Lists, bytes and sets of bytes, as all crates of the policy tool speak of them; numbers by names, bytes with several owners, and how
-//! names and paths are written: between quotes, or in hexadecimal.
+//! What all crates of the policy tool use for bytes: prefixes of texts, sets of bytes and of bits, growable lists, bytes with several owners, and
+//! numbers looked up by name; and how names and paths are printed: in quotes, or in hexadecimal.
 #![tactic(auto)]
 
 mod bits;

@@ -1,4 +1,4 @@
-//! Numbers by names.
+//! Numbers looked up by name.
 
 ghost use Rattle.std.specs.Prelude.{◌≡◌, ℕ, List, None, OnOk, OnErr};
 ghost use Rattle.aa_bytes.specs.NameMaps.{GivesNumber, HaveSameNumbers, number_of};
@@ -6,14 +6,14 @@ ghost use Rattle.aa_bytes.specs.NameMaps.{GivesNumber, HaveSameNumbers, number_o
 use std::alloc::{AllocError, Global};
 use std::collections::BTreeMap;
 
-/// A number for each of some names, which are texts of bytes.
+/// A map from names, which are bytes, to numbers.
 #[derive(Drop)]
 pub struct NameMap {
     by_name: BTreeMap<Vec<u8>, usize>,
 }
 
 impl NameMap {
-    /// No name has a number. It takes no memory.
+    /// An empty map. It takes no memory.
     pub fn new(alloc: Global) -> NameMap
         ensures { (name : List ℕ) → number_of result name ≡ None }
     {
@@ -22,19 +22,18 @@ impl NameMap {
         }
     }
 
-    /// The number of a name, or nothing where it has none. It takes no memory, and a time that grows with the logarithm of the
-    /// number of names, whatever they are.
+    /// The number of a name, or `None` where it has none. It takes no memory; `O(log n)` comparisons of names, n being the number of names.
     pub fn get(&self, name: &[u8]) -> Option<usize>
         ensures { result ≡ number_of self.now name.now }
     {
         self.by_name.get(name).copied()
     }
 
-    /// Gives a name a number, in place of the one that it had, if any. It takes a copy of the name, and some 50 bytes more.
+    /// Gives a name a number, replacing the one that it had, if any. It takes a copy of the name, and some 50 bytes more.
     ///
     /// # Errors
     ///
-    /// Where memory runs out. All names then have what they had.
+    /// Where memory runs out. The map is then unchanged.
     pub fn insert(&mut self, alloc: Global, name: &[u8], number: usize) -> Result<(), AllocError>
         ensures ok { OnOk result (GivesNumber self.old name.now number self.new) }
         ensures err { OnErr result (HaveSameNumbers self.old self.new) }

@@ -1,4 +1,4 @@
-//! How names and paths are written: between quotes, or in hexadecimal.
+//! How names and paths are printed: in quotes, or in hexadecimal.
 
 ghost use Rattle.std.specs.Prelude.{◌≡◌, ◌-◌, ◌^◌, ◌++◌, OnOk, length, min};
 ghost use Rattle.std.specs.List.{list_all};
@@ -7,14 +7,15 @@ ghost use Rattle.aa_bytes.specs.Quoting.{digits_of, hexadecimal, is_shown, quote
 use hex::encode_to_slice;
 use std::alloc::AllocError;
 
-// Whether a text shows a byte as it is.
+// Whether a byte is printed as it is: a visible ASCII character other than a quote.
 fn is_shown(byte: u8) -> bool
     ensures { result ≡ is_shown byte }
 {
     byte.is_ascii_graphic() && byte != b'"'
 }
 
-/// Whether a text shows all of its bytes as they are: they are visible ASCII characters, and none is a quote. It takes no memory.
+/// Whether all bytes of a text are printed as they are: they are visible ASCII characters, and none is a quote. It takes no memory; `O(n)` in the
+/// length of the text.
 pub fn are_shown(text: &[u8]) -> bool
     ensures { result ≡ list_all is_shown text.now }
 {
@@ -34,7 +35,7 @@ pub fn two_digits(byte: u8) -> [u8; 2]
     digits
 }
 
-/// How many bytes a text takes as it is written, where that is a number of the type, and else the greatest. It takes no memory.
+/// How many bytes a text takes as `push_text` prints it, or `usize::MAX` where there are more. It takes no memory.
 pub fn written_size(text: &[u8]) -> usize
     ensures { result ≡ min (length (written_text text.now)) (2 ^ 64 - 1) }
 {
@@ -45,7 +46,7 @@ pub fn written_size(text: &[u8]) -> usize
     }
 }
 
-/// Puts a text between quotes behind a line.
+/// Appends a text in quotes to a line.
 ///
 /// # Errors
 ///
@@ -59,7 +60,7 @@ pub fn push_quoted(line: &mut Vec<u8>, text: &[u8]) -> Result<(), AllocError>
     Ok(())
 }
 
-// Puts bytes as two hexadecimal digits each behind a line.
+// Appends bytes to a line, each as two hexadecimal digits.
 fn push_hexadecimal(line: &mut Vec<u8>, bytes: &[u8]) -> Result<(), AllocError>
     ensures { OnOk result (line.new.items ≡ line.old.items ++ hexadecimal bytes.now) }
 {
@@ -71,7 +72,7 @@ fn push_hexadecimal(line: &mut Vec<u8>, bytes: &[u8]) -> Result<(), AllocError>
     Ok(())
 }
 
-/// Puts a text behind a line as it is written: between quotes, or in hexadecimal where one of its bytes isn't shown.
+/// Appends a text to a line as it is printed: in quotes, or in hexadecimal where one of its bytes isn't shown.
 ///
 /// # Errors
 ///

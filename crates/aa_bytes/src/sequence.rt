@@ -5,7 +5,7 @@ ghost use Rattle.std.specs.Prelude.{◌≡◌, [], ◌++◌, IfOk, OnOk, OnErr};
 use std::alloc::{AllocError, Global};
 use std::marker::Model;
 
-/// A list that grows at its end. Contracts compare two of them by their items alone.
+/// A growable list. Contracts compare two of them by their items alone.
 #[derive(Debug, Drop)]
 pub struct Sequence<T> {
     items: Vec<T>,
@@ -29,7 +29,7 @@ impl<T> Sequence<T> {
         }
     }
 
-    /// The list of a vector's items, which it takes over. It takes no memory.
+    /// The list of a vector's items. It takes the vector over, and copies nothing.
     pub fn from_vec(items: Vec<T>) -> Self
         ensures { result ≡ items.items }
     {
@@ -45,11 +45,11 @@ impl<T> Sequence<T> {
 }
 
 impl<T: Drop> Sequence<T> {
-    /// Puts other items behind its own, all of them or none.
+    /// Appends another list, all of its items or none.
     ///
     /// # Errors
     ///
-    /// Where memory runs out. The list is then as it was, and the other items are dropped.
+    /// Where memory runs out. The list is then as it was, and the other one is dropped.
     pub fn append(&mut self, more: Sequence<T>) -> Result<(), AllocError>
         ensures ok { OnOk result (self.new ≡ self.old ++ more) }
         ensures err { OnErr result (self.new ≡ self.old) }
@@ -60,7 +60,7 @@ impl<T: Drop> Sequence<T> {
 }
 
 impl<T: Copy> Sequence<T> {
-    /// A list of the same items.
+    /// A new list with a copy of these items.
     ///
     /// # Errors
     ///

@@ -6,7 +6,7 @@ use std::alloc::{AllocError, Global};
 use std::marker::Model;
 use std::rc::RcSlice;
 
-/// Bytes that several owners share. They never change, and go with their last owner. Contracts compare two of them by their bytes alone.
+/// Bytes that several owners share. They never change, and are freed with their last owner. Contracts compare two of them by their bytes alone.
 #[derive(Debug, Drop)]
 pub struct SharedBytes {
     bytes: RcSlice<u8>,
@@ -22,7 +22,7 @@ impl Model for SharedBytes {
 }
 
 impl SharedBytes {
-    /// The same bytes, in memory of their own.
+    /// A copy of these bytes, in memory of its own.
     ///
     /// # Errors
     ///
@@ -42,7 +42,7 @@ impl SharedBytes {
         self.bytes.as_slice()
     }
 
-    /// The same bytes for one more owner. It takes no memory.
+    /// One more owner of these bytes, which aren't copied. It takes no memory.
     ///
     /// # Errors
     ///
@@ -56,7 +56,7 @@ impl SharedBytes {
     }
 }
 
-/// The same bytes for one more owner, where there are any. It takes no memory.
+/// One more owner of these bytes, where there are any. It takes no memory.
 ///
 /// # Errors
 ///

@@ -1,4 +1,4 @@
--- Words that the laws of attachment and of the start of programs are said in.
+-- Definitions for the laws on attachment and on the start of programs.
 use Rattle.std.specs.Prelude.{◌≡◌, ◌<◌, ℕ, Bool, true, false, List, Some}
 use Rattle.std.specs.List.{Contains}
 use Rattle.std.specs.Str.{bytes_eq}
@@ -28,7 +28,7 @@ abbrev pub RanksAboveOthers : List ℕ → List Loaded → Loaded → Type 0
 RanksAboveOthers path entries entry =
     (other : Loaded) → Contains entries other → bytes_eq other.profile.name entry.profile.name ≡ false → entry_rank path other < entry_rank path entry
 
--- an entry fits a path best: it is one of these, its rank is above 0, and all others have lower ones
+-- an entry fits a path best: it is one of these entries, its rank is above 0, and all others have lower ranks
 abbrev pub FitsBest : List ℕ → List Loaded → Loaded → Type 0
 FitsBest path entries entry = Contains entries entry × (0 < entry_rank path entry) × RanksAboveOthers path entries entry
 
@@ -37,7 +37,7 @@ abbrev pub SomeRuleDenies : Bool → List ℕ → Section → Type 0
 SomeRuleDenies owned path section =
     (rule : Rule) × (audited : Bool) × Contains section.rules rule × (said_of section.audit owned path rule ≡ Some (Denying audited))
 
--- what a stack is on is in force: a profile that isn't disabled, or no profile
+-- the base of a stack is in force: a profile that isn't disabled, or no profile
 abbrev pub IsBaseInForce : Base → Type 0
 IsBaseInForce (OnProfile entry child) = is_in_force entry.state ≡ true
 IsBaseInForce OnUnconfined = Unit {0}

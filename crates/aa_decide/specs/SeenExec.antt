@@ -1,4 +1,4 @@
--- Who asks to start a program, and what is answered, as the definitions see it: slots stand for the entries in them.
+-- The asker that starts a program, and the answer, as the definitions see them: slots stand for the entries in them.
 use Rattle.std.specs.Prelude.{◌≡◌, ℕ, List, Option, None, Some}
 use Rattle.std.specs.Option.{option_map}
 use Rattle.aa_decide_ready.specs.Entries.{Loaded}
@@ -14,30 +14,30 @@ use Rattle.aa_decide.specs.declared.asker.Asker.{Asker as FoundAsker}
 use Rattle.aa_decide.specs.declared.asker.Who.{Who}
 use Rattle.aa_decide.specs.declared.asker.Who.TheVariants as who
 
--- who asks, as the code has it
+-- the asker, as the code has it
 abbrev pub seen_asker : FoundAsker → Asker
 seen_asker asker = record { entry = asker.entry.now; child = asker.child }
 
--- the slot of who asks holds its entry
+-- the asker's slot holds its entry
 abbrev pub IsIn : List (Option Loaded) → FoundAsker → Type 0
 IsIn slots asker = entry_at slots asker.slot ≡ Some asker.entry.now
 
--- who asks by a loaded profile: one whose slot isn't filled is no one in particular
+-- the asker of a loaded profile: one whose slot isn't filled is no one in particular
 abbrev pub asker_in : List (Option Loaded) → Who → Option Asker
 asker_in slots who.Unconfined = None
 asker_in slots (who.Entry slot child) = option_map (λ entry. record { entry = entry; child = child }) (entry_at slots slot)
 
--- what a stack is on, if the slot is filled
+-- the base of a stack, if its slot is filled
 abbrev pub seen_base : List (Option Loaded) → StackBase → Option Base
 seen_base slots (base.Profile slot child) = option_map (λ entry. OnProfile entry child) (entry_at slots slot)
 seen_base slots base.Unconfined = Some OnUnconfined
 
--- a stack of these members, if the slot of what it is on is filled
+-- a stack of these members, if the slot of its base is filled
 abbrev pub seen_stacked : List (Option Loaded) → List (List ℕ) → Option StackBase → Option Started
 seen_stacked slots members None = Some (Stacked None members)
 seen_stacked slots members (Some base) = option_map (λ base. Stacked (Some base) members) (seen_base slots base)
 
--- under what the program runs, if the slot is filled
+-- under which profile the program runs, if its slot is filled
 abbrev pub seen_to : List (Option Loaded) → ExecTo → Option Started
 seen_to slots (to.Profile slot child) = option_map (λ entry. Under entry child) (entry_at slots slot)
 seen_to slots to.Unconfined = Some Unconfined
@@ -45,7 +45,7 @@ seen_to slots (to.Stack base members) = seen_stacked slots (parts_of members.now
 seen_to slots to.Null = Some Null
 seen_to slots to.Nowhere = Some Nowhere
 
--- what the code found a stack to be on is what the definitions say, if there is something, and then in a filled slot
+-- the base that the code found is the base of the definitions, if there is one, and then in a filled slot
 abbrev pub IsBase : List (Option Loaded) → Option StackBase → Option Base → Type 0
 IsBase slots found base = option_map (seen_base slots) found ≡ option_map (λ base. Some base) base
 

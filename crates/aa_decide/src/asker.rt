@@ -1,4 +1,4 @@
-//! Who asks to start a program: with the loaded profile that confines the task, by a full name, or by its slot.
+//! Who asks to start a program: by the loaded profile that confines the task, by a full name, or by the profile's slot.
 
 ghost use Rattle.std.specs.Prelude.{◌≡◌, IfSome, List, Option, Some};
 ghost use Rattle.std.specs.Option.{option_copied, option_map};
@@ -12,32 +12,32 @@ use aa_decide_ready::{Entry, IndexedSlots, entry_at, find_named};
 use aa_decide_rules::ExecTo;
 use aa_profile_data::{child_place, cut_full_name};
 
-/// Who asks by a loaded profile, as long as this is in force.
+/// Who asks by a loaded profile, as long as it is in force.
 #[derive(Clone, Copy)]
 pub struct Asker<'a> {
     /// The profile.
     pub entry: &'a Entry,
     /// Its slot.
     pub slot: usize,
-    /// The place of the child or hat that confines the task; none where that is the profile itself.
+    /// The index of the child or hat that confines the task; `None` where that is the profile itself.
     pub child: Option<usize>,
 }
 
 /// Who asks, by slot.
 #[derive(Clone, Copy, Debug, PartialEq, Eq)]
 pub enum Who {
-    /// A task that nothing confines.
+    /// A task that no profile confines.
     Unconfined,
-    /// One that is confined by a loaded profile, as long as this is in force.
+    /// A task that is confined by a loaded profile, as long as that is in force.
     Entry {
         /// The profile's slot.
         slot: usize,
-        /// The place of the child or hat that confines it; none where that is the profile itself.
+        /// The index of the child or hat that confines it; `None` where that is the profile itself.
         child: Option<usize>,
     },
 }
 
-// Who asks by a loaded profile, if its slot is filled.
+// The asker with the loaded profile in its slot, if the slot is filled.
 pub fn asker_in(slots: &[Option<Entry>], who: Who) -> Option<Asker<'_>>
     ensures asker { option_map seen_asker result ≡ asker_in slots.now who }
     ensures filled { IfSome result (IsIn slots.now) }
@@ -51,7 +51,7 @@ pub fn asker_in(slots: &[Option<Entry>], who: Who) -> Option<Asker<'_>>
     }
 }
 
-// The profile in a slot, or the child or hat of it that is named.
+// The profile in a slot, or its child or hat of this name.
 pub fn named_in<'a>(slot: usize, entry: &'a Entry, child: Option<&[u8]>) -> Option<Asker<'a>>
     ensures named { option_map seen_asker result ≡ entry_asker (option_copied child.entry) entry.now }
     ensures entry { IfSome result (λ named. named.entry.now ≡ entry.now) }
@@ -64,7 +64,7 @@ pub fn named_in<'a>(slot: usize, entry: &'a Entry, child: Option<&[u8]>) -> Opti
     Some(Asker { entry, slot, child })
 }
 
-/// The profile, child or hat of a full name, in whatever state it is, and its slot. None where there is none. It takes no memory.
+/// The profile, child or hat of a full name, in whatever state it is, and its slot; `None` where there is none. It takes no memory.
 pub fn find_loaded<'a>(slots: &IndexedSlots<'a>, name: &[u8]) -> Option<Asker<'a>>
     ensures named { option_map seen_asker result ≡ named_asker (filled slots.now) (full_name name.now) }
     ensures there { IfSome result (IsIn slots.now) }
@@ -74,7 +74,7 @@ pub fn find_loaded<'a>(slots: &IndexedSlots<'a>, name: &[u8]) -> Option<Asker<'a
     named_in(slot, entry, child)
 }
 
-// A program runs under who asks.
+// The program runs under the profile, child or hat that asks.
 pub fn under<'a>(asker: Asker<'_>) -> ExecTo<'a>
     ensures { (slots : List (Option Loaded)) → IsIn slots asker.entry → seen_to slots result ≡ Some (under (seen_asker asker.entry)) }
 {

@@ -1,4 +1,4 @@
-//! Which of the profiles in force a program belongs to by its path.
+//! Which of the profiles in force attaches to a program, by its path.
 
 ghost use Rattle.std.specs.Prelude.{◌≡◌, IfOk, map, slice_get};
 ghost use Rattle.aa_decide_rules.specs.Ranks.{best_rank};
@@ -29,7 +29,7 @@ fn entry_rank(alloc: Global, entry: &Entry, path: &[u8]) -> Result<u128, AllocEr
     }
 }
 
-// The rank of what a slot holds.
+// The rank of the profile in a slot, 0 where it is empty.
 fn rank_at(
     alloc: Global,
     slots: &[Option<Entry>],
@@ -44,7 +44,7 @@ fn rank_at(
     }
 }
 
-// The rank of what each of these slots holds.
+// The rank of the profile in each of these slots.
 fn ranks_at(
     alloc: Global,
     slots: &[Option<Entry>],
@@ -60,16 +60,16 @@ fn ranks_at(
     Ok(ranks)
 }
 
-// The slot at a place among some, if there is one.
+// The slot at an index of a list, if there is one.
 fn slot_at(slots: &[usize], place: usize) -> Option<usize>
     ensures { result ≡ slice_get slots.now place }
 {
     slots.get(place).copied()
 }
 
-/// The slot of the profile that the program of a path is attached to (docs/policy.md, "Exec and attachment"): of those in force the one whose best
-/// attachment on this path ranks above each other's. None where no attachment matches, and where two share the best rank. What it tells is
-/// said of the filled slots in their order, and it is always a filled one.
+/// The slot of the profile in force that attaches to the program of a path (docs/policy.md, "Exec and attachment"): the one whose best attachment on
+/// this path ranks higher than that of any other. `None` where no attachment matches, and where two share the best rank. The contract speaks of the
+/// filled slots in their order, and the result is always a filled one.
 ///
 /// # Errors
 ///
@@ -102,8 +102,9 @@ fn child_ranks(alloc: Global, ready: &Ready, path: &[u8]) -> Result<Vec<u128>, A
     Ok(ranks)
 }
 
-/// The place of the child of a profile that the program of a path is attached to (docs/policy.md, "Exec and attachment"): of its children the one whose
-/// best attachment on this path ranks above each other's. None where no attachment matches, and where two share the best rank. Hats have no attachments.
+/// The index of the child of a profile that attaches to the program of a path (docs/policy.md, "Exec and attachment"): the one whose best attachment
+/// on this path ranks higher than that of any other. `None` where no attachment matches, and where two share the best rank. Hats have no
+/// attachments.
 ///
 /// # Errors
 ///

@@ -1,4 +1,4 @@
-//! Under what a program runs that is started.
+//! Under which profile a program runs that is started.
 
 ghost use Rattle.std.specs.Prelude.{◌≡◌, IfOk, IfSome, List, None, Option, Some};
 ghost use Rattle.std.specs.Option.{option_map};
@@ -43,7 +43,7 @@ fn tag_if(audited: bool, tag: Tag) -> Option<Tag>
     if audited { Some(tag) } else { None }
 }
 
-// A program isn't started.
+// The program isn't started.
 fn stopped<'a>(answer: Answer, tag: Option<Tag>) -> ExecVerdict<'a>
     ensures { IsAnswerAnywhere result (stopped answer tag) }
 {
@@ -54,7 +54,7 @@ fn stopped<'a>(answer: Answer, tag: Option<Tag>) -> ExecVerdict<'a>
     }
 }
 
-// No rule says where to go.
+// No rule says under which profile to run.
 fn missing<'a>(mediation: Mediation) -> ExecVerdict<'a>
     ensures { IsAnswerAnywhere result (missing mediation) }
 {
@@ -81,7 +81,7 @@ fn started<'a>(audited: bool, to: ExecTo<'a>, scrub: bool) -> ExecVerdict<'a>
     }
 }
 
-// The profile that a path is attached to.
+// The profile that attaches to a path.
 fn to_attached<'a>(
     alloc: Global,
     slots: &IndexedSlots<'_>,
@@ -95,7 +95,7 @@ fn to_attached<'a>(
     }
 }
 
-// A profile in force: the one that is named, or else the one that the path is attached to.
+// A profile in force: the one that is named, or else the one that attaches to the path.
 fn to_profile<'a>(
     alloc: Global,
     slots: &IndexedSlots<'_>,
@@ -110,7 +110,7 @@ fn to_profile<'a>(
     }
 }
 
-// The place of a child or hat: of the one that is named, or else of the child that the path is attached to.
+// The index of a child or hat: of the one that is named, or else of the child that attaches to the path.
 fn place_of_child(
     alloc: Global,
     ready: &Ready,
@@ -146,10 +146,10 @@ fn to_child<'a>(
     }
 }
 
-/// Where a destination leads who asks to start the program of a path, with the target that the transition names, if that is there (docs/policy.md,
-/// "Exec and attachment"): to the profile in force of the target's full name, or else to the one that the path is attached to; to a child or hat of
-/// the profile that asks, by its name or else by the path, of which a child has none; to who asks itself; or to no profile. A profile that it tells
-/// is in a filled slot, and in force but for who asks.
+/// Where a destination leads for an asker who starts the program of a path, with the target of the transition, if that exists (docs/policy.md, "Exec
+/// and attachment"): to the profile in force of the target's full name, or else to the one that attaches to the path; to a child or hat of the
+/// profile that asks, by its name or else by the path, of which a child has none; to the asker itself; or to no profile. `None` where that doesn't
+/// exist. A profile in the result is in a filled slot, and in force unless it is the asker.
 ///
 /// # Errors
 ///
@@ -174,10 +174,10 @@ pub fn led<'a>(
     }
 }
 
-/// Where the word of a transition leads who asks to start the program of a path, if that is there (docs/policy.md, "Exec and attachment"): where the
-/// transition names a stack, to that, and else where the word's destination leads ([`led`]). A stack is there where each of its members is in force, and
-/// one that is on a base where there is one: behind a word that leads to a profile the profile in force that the path is attached to, or else what the
-/// word's fallback leads to; behind one that leads to a child the profile that asks, and nothing where a child or hat asks.
+/// Where the word of a transition leads for an asker who starts the program of a path, if that exists (docs/policy.md, "Exec and attachment"): where
+/// the transition names a stack, to that, and else where the word's destination leads ([`led`]). A stack exists where each of its members is in
+/// force and, if it is on a base, that exists too: for a word that leads to a profile it is the profile in force that attaches to the path, or else
+/// what the word's fallback leads to; for one that leads to a child it is the profile that asks, and there is none where a child or hat asks.
 ///
 /// # Errors
 ///
@@ -222,7 +222,7 @@ fn led_by<'a>(
     }
 }
 
-// A transition that is carried out.
+// Carries a transition out.
 fn carried_out<'a>(
     alloc: Global,
     slots: &IndexedSlots<'_>,
@@ -267,7 +267,7 @@ fn by_choice<'a>(
     }
 }
 
-// The answer to who is confined by nothing.
+// The answer to an asker that no profile confines.
 fn unconfined_start<'a>(
     alloc: Global,
     slots: &IndexedSlots<'_>,
@@ -281,7 +281,7 @@ fn unconfined_start<'a>(
     }
 }
 
-// The answer to who is confined by its name alone.
+// The answer to an asker in mode unconfined.
 fn own_start<'a>(
     alloc: Global,
     slots: &IndexedSlots<'_>,
@@ -298,9 +298,9 @@ fn own_start<'a>(
     }
 }
 
-/// What the rules of a profile, or of a child or hat of it, say together of the program of a path that is started (docs/policy.md, "The start of a
-/// program"): that it is denied, where a deny rule with `x` applies; that no rule speaks of it; or where it leads, which is the transition of the first
-/// rule that dominates. One automaton finds the rules whose patterns match. `owned` says whether the task's user owns the file.
+/// What the rules of a profile, or of a child or hat, say together of the start of the program of a path (docs/policy.md, "The start of a program"):
+/// that it is denied, where a deny rule with `x` applies; that no rule applies to it; or where it leads, which is the transition of the first rule
+/// that dominates. One automaton finds the rules whose patterns match. `owned` says whether the task's user owns the file.
 ///
 /// # Errors
 ///
@@ -323,7 +323,7 @@ pub fn choice_of<'a>(
     )
 }
 
-// The answer to who asks by a loaded profile.
+// The answer to an asker with a loaded profile.
 fn asked_by<'a>(
     alloc: Global,
     slots: &IndexedSlots<'_>,
@@ -345,17 +345,16 @@ fn asked_by<'a>(
     }
 }
 
-/// Under what the program of a path runs that is started, and how that is logged (docs/policy.md, "Exec and
-/// attachment"). Asked by no one in particular, as a task is that nothing confines, and by a disabled profile: under
-/// the profile in force that the path is attached to, or else under none. Asked by a profile, child or hat in mode
-/// unconfined, whose rules aren't asked: under that profile, or else under who asks. Asked by another profile in force,
-/// by its own rules, or those of its child or hat: `Deny` where a deny rule with `x` applies; what its mode says,
-/// `Refuse` or `Complain`, where no allow rule with an exec word does; else where the first of those leads that
-/// dominate, or else where its fallback does. A rule may lead under several profiles at once, a stack ([`led_by_word`]),
-/// of which each is in force. The rules of a profile that was made ready agree ([`ReadySection::rules_agree`]), and of such rules all
-/// that dominate have one transition (`where_agreeing_rules_lead` of `aa_decide_rules`). A disabled profile is
-/// never gone to. `owned` says whether the task's user owns the file. What it answers is said of the filled slots in
-/// their order, and a profile that it tells is in a filled one.
+/// Under which profile a program runs that is started by its path, and how that is logged (docs/policy.md, "Exec and attachment").
+///
+/// Without an asker, for a task that no profile confines, and for a disabled profile: under the profile in force that attaches to the path, or else
+/// under none. For a profile, child or hat in mode unconfined, whose rules aren't looked at: under the profile that attaches to the path, or else
+/// under the asker. For any other profile in force, by its own rules, or those of its child or hat: `Deny` where a deny rule with `x` applies; by its
+/// mode `Refuse` or `Complain`, where no allow rule with an exec word applies; else where the first rule leads that dominates, or else where its
+/// fallback leads. A rule may lead to several profiles at once, a stack ([`led_by_word`]), each of which is in force. The rules of a profile that was
+/// made ready agree ([`ReadySection::rules_agree`]), and of such rules all that dominate have one transition (`where_agreeing_rules_lead` of
+/// `aa_decide_rules`). No program runs under a disabled profile. `owned` says whether the task's user owns the file. The contract speaks of the
+/// filled slots in their order, and a profile in the result is in a filled one.
 ///
 /// # Errors
 ///
@@ -377,7 +376,7 @@ pub fn exec_by<'a>(
     }
 }
 
-/// The same by slot ([`exec_by`]): a task that nothing confines, and an empty slot, are no one in particular.
+/// Answers as [`exec_by`], for an asker by slot: a task that no profile confines, and an empty slot, are no asker.
 ///
 /// # Errors
 ///

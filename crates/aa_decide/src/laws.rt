@@ -1,4 +1,4 @@
-//! What holds of attachment and of the start of programs, as laws over the definitions that `attach` and `exec` are proved to follow.
+//! Properties of attachment and of the start of programs, as laws over the definitions that `attach` and `exec` are proved to follow.
 
 ghost use Rattle.std.specs.Prelude.{◌≡◌, ◌<◌, ◌^◌, ◌↔◌, ℕ, Bool, IfSome, List, Option, Some, true};
 ghost use Rattle.std.specs.List.{All};
@@ -16,10 +16,10 @@ ghost use Rattle.aa_decide_rules.specs.declared.verdict.Answer.TheVariants.{Deny
 use aa_decide_ready::ReadySection;
 use aa_decide_rules::{where_agreeing_rules_lead, which_rank_stands_out};
 
-/// A program never runs under a disabled profile, nor under a child or hat of one, and what a stack is on and all others in it are in force. Of
-/// profiles of different names a path is attached to one exactly where this has an attachment that matches and ranks above all others. The order of
-/// the profiles changes neither that nor any answer. A deny rule that covers the start of the program wins over all other rules. The mask of each answer
-/// is `x`.
+/// A program never runs under a disabled profile, nor under a child or hat of one, and all profiles of a stack, its base included, are in force. Of
+/// profiles of different names, one attaches to a path exactly where it has an attachment that matches and ranks higher than those of all others.
+/// The order of the profiles changes neither that nor any answer. A deny rule that covers the start of the program takes precedence over all other
+/// rules. The mask of each answer is `x`.
 pub fn where_programs_run()
     ensures none_runs_under_a_disabled_profile { (entries : List Loaded) (asker : Option Asker) (owned : Bool) (path : List ℕ)
         → (entry : Loaded) (child : Option ℕ)
@@ -49,8 +49,8 @@ pub fn where_programs_run()
     which_rank_stands_out();
 }
 
-/// Of the rules of a profile that is ready, or of a child or hat of it, those that dominate on a path have one transition: where the first of them
-/// leads, all lead. A path is a list of bytes.
+/// Of the rules of a ready profile, or of a child or hat of it, those that dominate on a path have one transition: where the first of them leads,
+/// all lead. A path is a list of bytes.
 pub fn where_the_rules_lead(section: ReadySection<'_>)
     ensures { (flag owned : Bool) (path : List ℕ) → All (λ b. b < 2 ^ 8) path → RulesLeadOneWay flag owned path section.entry.rules.now }
 {

@@ -1,4 +1,6 @@
-//! What a profile's rules say of a request or of the start of a program, and how that is logged.
+//! Decisions by loaded profiles: under which profile a program runs that is started (`exec`), which profile attaches to a path (`attach`), and,
+//! passed on from the crates below, what a profile's rules answer to a request (`ReadySection::decide`), and the audit lines of both. Profiles are
+//! in slots; an `IndexedSlots` finds names and attachments without going over all of them.
 #![tactic(auto)]
 
 mod asker;

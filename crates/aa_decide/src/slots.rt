@@ -1,4 +1,4 @@
-//! Profiles in force by their names.
+//! Profiles in force, by their names.
 
 ghost use Rattle.std.specs.Prelude.{◌≡◌, IfSome, Some};
 ghost use Rattle.std.specs.Option.{option_map};
@@ -33,7 +33,7 @@ fn scan_in_force<'a>(slots: &'a [Option<Entry>], name: &[u8]) -> Option<(usize, 
     None
 }
 
-// The profile in force of this name, and its slot. Only where the first of the name is out of force are all slots gone over.
+// The profile in force of this name, and its slot. All slots are gone over only where the first profile of the name isn't in force.
 pub fn find_in_force<'a>(slots: &IndexedSlots<'a>, name: &[u8]) -> Option<(usize, &'a Entry)>
     ensures found { option_map (λ found. found.1.now) result ≡ named_in_force name.now (filled slots.now) }
     ensures at { IfSome result (λ found. entry_at slots.now found.0 ≡ Some found.1.now) }

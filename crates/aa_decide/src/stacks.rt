@@ -1,4 +1,4 @@
-//! Where stacks lead: under several profiles at once.
+//! Stacks: programs that run under several profiles at once.
 
 ghost use Rattle.std.specs.Prelude.{◌≡◌, IfOk, List, Option, Some, is_some, option_and_then};
 ghost use Rattle.std.specs.Option.{option_map};
@@ -44,7 +44,7 @@ fn are_in_force(slots: &IndexedSlots<'_>, members: &[u8]) -> bool
     }
 }
 
-// What a stack is on where no profile is attached to the path: what the fallback leads to of a word that leads to a profile.
+// The base of a stack where no profile attaches to the path, for a word that leads to a profile: what its fallback leads to.
 fn fallback_base(asker: Asker<'_>, fallback: Option<Destination>) -> Option<StackBase>
     ensures { IsBaseOf asker.entry result (option_and_then (fallback_base (seen_asker asker.entry)) fallback) }
 {
@@ -60,7 +60,7 @@ fn fallback_base(asker: Asker<'_>, fallback: Option<Destination>) -> Option<Stac
     }
 }
 
-// What a stack is on behind a word that leads to a profile: the profile that the path is attached to, or else what the fallback leads to.
+// The base of a stack for a word that leads to a profile: the profile that attaches to the path, or else what the fallback leads to.
 fn profile_base(
     alloc: Global,
     slots: &IndexedSlots<'_>,
@@ -78,7 +78,7 @@ fn profile_base(
     }
 }
 
-// What it is on behind a word that leads to a child: the profile that asks; where a child or a hat asks, there is nothing.
+// The base of a stack for a word that leads to a child: the profile that asks; none where a child or a hat asks.
 fn asking_base(asker: Asker<'_>) -> Option<StackBase>
     ensures { IsBaseOf asker.entry result (asking_base (seen_asker asker.entry)) }
 {
@@ -91,7 +91,7 @@ fn asking_base(asker: Asker<'_>) -> Option<StackBase>
     })
 }
 
-// What a stack is on behind a word, if there is something.
+// The base of a stack for a word, if there is one.
 fn base_of(
     alloc: Global,
     slots: &IndexedSlots<'_>,
@@ -112,7 +112,7 @@ fn base_of(
     }
 }
 
-// Where a stack on a base leads whose members are in force: nowhere where there is no base.
+// Where a stack on a base leads whose members are in force: `None` where there is no base.
 fn stacked_on<'a>(base: Option<StackBase>, members: &'a [u8]) -> Option<ExecTo<'a>>
     ensures { (slots : List (Option Loaded)) (there : Option Base)
         → IsBase slots base there
@@ -125,7 +125,7 @@ fn stacked_on<'a>(base: Option<StackBase>, members: &'a [u8]) -> Option<ExecTo<'
     })
 }
 
-// Where a stack leads behind a word: nowhere where some member isn't in force, and where it needs a base and has none.
+// Where a stack leads for a word: `None` where some member isn't in force, and where it needs a base and has none.
 pub fn to_stack<'a>(
     alloc: Global,
     slots: &IndexedSlots<'_>,
@@ -152,7 +152,7 @@ pub fn to_stack<'a>(
     Ok(stacked_on(base, stack.members))
 }
 
-// The stack that a transition names, if it names one.
+// The stack that a transition names, or `None`.
 pub fn named_stack<'a>(transition: &'a Transition) -> Option<Stack<'a>>
     ensures { option_map seen_stack result ≡ named_stack transition.now }
 {

@@ -12,32 +12,32 @@ use Rattle.aa_decide_ready.specs.declared.confinement.Confinement.TheVariants.{U
 use Rattle.aa_decide_ready.specs.declared.entry.State.{State}
 use Rattle.aa_decide_ready.specs.declared.entry.State.TheVariants.{Disabled, Modes}
 
--- What confines a task: nothing; or a profile, a child or a hat, which gives its name alone, or by what it decides, with what becomes of what its
--- rules don't allow.
+-- What confines a task: nothing; or a profile, a child or a hat, either by its name alone, or by its section, with the mediation of what its rules
+-- don't allow.
 pub data Confinement : Type 0 where
   Unconfined : Confinement
   ByName : Confinement
   By : (section : Section) (mediation : Mediation) → Confinement
 
--- what the code found
+-- the confinement that the code found
 abbrev pub found : Found → Confinement
 found FoundNone = Unconfined
 found FoundName = ByName
 found (FoundRules section mediation) = By (seen_section section) mediation
 
--- The first mode is the profile's, and those behind it are its children's and hats', in their order.
+-- The first mode is the profile's, and the modes after it are its children's and hats', in their order.
 abbrev pub mode_at : List Mode → Option ℕ → Mode
 mode_at [] child = Enforce
 mode_at (mode ∷ modes) None = mode
 mode_at (mode ∷ modes) (Some place) = slice_index_or modes place mode
 
--- What confines a task by a profile, child or hat in force in a mode: in mode unconfined no rule is asked.
+-- What confines a task by a profile, child or hat in force in a mode: in mode unconfined its rules don't decide.
 abbrev pub confined : Section → Mode → Confinement
 confined section Enforce = By section Enforcing
 confined section Complain = By section Complaining
 confined section UnconfinedMode = ByName
 
--- A profile that is disabled confines nothing, nor do its children and hats; else it or they do in their modes.
+-- A disabled profile confines nothing, nor do its children and hats; else it or they confine in their modes.
 abbrev pub in_state : Profile → State → Option ℕ → Confinement
 in_state profile Disabled child = Unconfined
 in_state profile (Modes modes) child = confined (section_at profile child) (mode_at modes child)

@@ -14,12 +14,12 @@ abbrev pub fits : Profile → State → Bool
 fits profile Disabled = true
 fits profile (Modes modes) = length modes == length profile.children + 1
 
--- a state is one in force
+-- the profile is in force in this state
 abbrev pub is_in_force : State → Bool
 is_in_force Disabled = false
 is_in_force (Modes modes) = true
 
--- an entry can be in another state: that one fits its profile, and so does its own
+-- an entry can be in another state: the new state fits its profile, and so does its own
 abbrev pub can_be_in : State → Loaded → Bool
 can_be_in state entry = fits entry.profile entry.state && fits entry.profile state
 

@@ -1,4 +1,4 @@
--- What is kept beside slots, so that they needn't be gone over.
+-- What is kept beside slots, so that they needn't be searched one by one.
 use Rattle.std.specs.Prelude.{◌≡◌, ℕ, ◌+◌, ◌<◌, cond, List, [], ◌∷◌, ◌++◌, length, map, replicate, slice_index, Option, None, Some}
 use Rattle.aa_bytes.specs.NameMaps.{number_of}
 use Rattle.aa_decide_ready.specs.Entries.{Loaded}
@@ -9,7 +9,7 @@ use Rattle.aa_decide_ready.specs.SlotNames.{holds, slot_named}
 use Rattle.aa_decide_ready.specs.declared.attachments.AttachmentIndex.{AttachmentIndex}
 use Rattle.aa_decide_ready.specs.declared.names.NameIndex.{NameIndex}
 
--- the slot that stands with a name
+-- the slot that the index has for a name
 abbrev pub slot_of : List ℕ → NameIndex → Option ℕ
 slot_of name index = number_of index.slots name
 
@@ -22,7 +22,7 @@ first_of (Some slot) second = Some slot
 abbrev pub NotesSlot : NameIndex → Option Loaded → ℕ → NameIndex → Type 0
 NotesSlot old slot place new = (name : List ℕ) → slot_of name new ≡ first_of (slot_of name old) (cond (holds name slot) (Some place) None)
 
--- with each name stands the first slot that holds it
+-- the index has for each name the first slot that holds it
 abbrev pub IsNameIndexOf : NameIndex → List (Option Loaded) → Type 0
 IsNameIndexOf index slots = (name : List ℕ) → slot_of name index ≡ slot_named name slots
 
@@ -31,7 +31,7 @@ abbrev pub all_attachments : List (Option Loaded) → List (List ℕ)
 all_attachments [] = []
 all_attachments (slot ∷ slots) = attachments_in slot ++ all_attachments slots
 
--- the slot of each of them, where the first slot has this number
+-- the slot of each of these attachments, where the first slot has this number
 abbrev pub owners_from : ℕ → List (Option Loaded) → List ℕ
 owners_from number [] = []
 owners_from number (slot ∷ slots) = replicate (length (attachments_in slot)) number ++ owners_from (number + 1) slots
@@ -46,7 +46,7 @@ abbrev pub profile_in : Option Loaded → Option Profile
 profile_in None = None
 profile_in (Some entry) = Some entry.profile
 
--- slots hold the same profiles as others, in whatever states
+-- two lists of slots hold the same profiles, in whatever states
 abbrev pub HoldSame : List (Option Loaded) → List (Option Loaded) → Type 0
 HoldSame slots others = map profile_in slots ≡ map profile_in others
 

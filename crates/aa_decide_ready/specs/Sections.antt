@@ -1,4 +1,4 @@
--- A profile, or a child or hat of it, by what it decides.
+-- What a profile, or a child or hat of it, decides by.
 use Rattle.std.specs.Prelude.{ℕ, Bool, List, Option}
 use Rattle.aa_profile_data.specs.Request.{Request}
 use Rattle.aa_profile_data.specs.declared.profile.Profile.{Profile}
@@ -9,13 +9,13 @@ use Rattle.aa_decide_rules.specs.declared.verdict.Verdict.{Verdict}
 use Rattle.aa_decide_ready.specs.Ready.{audits, rules_at}
 use Rattle.aa_decide_ready.specs.Visits.{attachments_at}
 
--- what a profile, a child or a hat decides by: whether its flag audits each of its rules, these, and the patterns of its attachments
+-- what a profile, a child or a hat decides by: the flag that audits each of its rules, its rules, and the patterns of its attachments
 pub record Section : Type 0 where
   pub audit : Bool
   pub rules : List Rule
   pub attachments : List (List ℕ)
 
--- that of a profile, or of its child or hat at a place; one that isn't there has no rules and no attachments
+-- the section of a profile, or of its child or hat at an index; a missing one has no rules and no attachments
 abbrev pub section_at : Profile → Option ℕ → Section
 section_at profile child = record {
   audit = audits profile child;
@@ -23,6 +23,6 @@ section_at profile child = record {
   attachments = attachments_at profile child;
 }
 
--- what it says of a request, by its own rules
+-- the verdict of a section on a request, by its own rules
 abbrev pub decided_by : Section → Mediation → Request → Verdict
 decided_by section mediation request = verdict mediation section.audit section.rules request

@@ -15,7 +15,7 @@ attachments_in (Some entry) = entry.profile.attachments
 abbrev pub Attaches : List ℕ → Option Loaded → Type 0
 Attaches path slot = (place : ℕ) × (pattern : List ℕ) × IsPatternAt (attachments_in slot) place pattern × (matches (items_of pattern) path ≡ true)
 
--- each slot of which an attachment matches a path is among these, which rise
+-- each slot of which an attachment matches a path is among these slots, which are in rising order
 pub record AreAttaching (path : List ℕ) (slots : List (Option Loaded)) (found : List ℕ) : Type 0 where
   pub rise : IsStrictlyIncreasing found
   pub within : (slot : ℕ) → Contains found slot → slot < length slots

@@ -10,23 +10,23 @@ use Rattle.aa_glob_nfa.specs.Visits.{CountsAllVisits, CountsFirstVisits}
 use Rattle.aa_glob_pattern.specs.Beginnings.{HasStates, most_states}
 use Rattle.aa_profile_data.specs.FileRules.{file_patterns}
 
--- the patterns of the attachments of a child or a hat; one that isn't there has none
+-- the patterns of the attachments of a child or a hat; a missing one has none
 abbrev pub child_attachments : Option Child → List (List ℕ)
 child_attachments None = []
 child_attachments (Some child) = child.attachments
 
--- the patterns of the attachments of a profile, or of its child or hat at a place
+-- the patterns of the attachments of a profile, or of its child or hat at an index
 abbrev pub attachments_at : Profile → Option ℕ → List (List ℕ)
 attachments_at profile None = profile.attachments
 attachments_at profile (Some place) = child_attachments (slice_get profile.children place)
 
--- To a count were added visits of one automaton of patterns that goes over a path once, all of them or those at some first places: no more than one
--- of each of its states before each byte and at the end, and exactly one of each beginning that is read at a place.
+-- To a count were added visits of one automaton of patterns that goes over a path once, all of them or those at some first offsets: no more than one
+-- of each of its states before each byte and at the end, and exactly one of each beginning that is read at an offset.
 pub record AreVisitsOf (patterns : List (List ℕ)) (path : List ℕ) (old new : ℕ) : Type 0 where
   pub within : (states : ℕ) → HasStates patterns states → IsCounted 0 (most_visits path states) old new
   pub first : CountsFirstVisits (IsReadOf patterns) path old new
 
--- all of them were added
+-- all visits were added
 abbrev pub AreAllVisitsOf : List (List ℕ) → List ℕ → ℕ → ℕ → Type 0
 AreAllVisitsOf patterns path old new = CountsAllVisits (IsReadOf patterns) path old new
 
@@ -36,12 +36,12 @@ AreStepsOf rules (ForFile letters owned path) old new = AreVisitsOf (file_patter
 AreStepsOf rules (ForCapability number) old new = new ≡ old
 AreStepsOf rules (ForSockets domain kind) old new = new ≡ old
 
--- how many it takes in all
+-- how many steps a request takes in all
 abbrev pub AreAllStepsOf : List Rule → Request → ℕ → ℕ → Type 0
 AreAllStepsOf rules (ForFile letters owned path) old new = AreAllVisitsOf (file_patterns rules) path old new
 AreAllStepsOf rules (ForCapability number) old new = new ≡ old
 AreAllStepsOf rules (ForSockets domain kind) old new = new ≡ old
 
--- so many states are no more than two for each byte of the file rules' patterns, and two for each of these
+-- there are no more than two states for each byte of the file rules' patterns, and two for each of these rules
 abbrev pub AreFewStates : List Rule → ℕ → Type 0
 AreFewStates rules states = states ≤ most_states (file_patterns rules)

@@ -1,2 +1,2 @@
--- What is about the code: what is made ready of profiles.
+-- Definitions about the code: what is made ready of profiles.
 pub mod Parts

@@ -1,4 +1,4 @@
-//! The slots of attachments.
+//! The index of attachments.
 
 ghost use Rattle.std.specs.Prelude.{◌≡◌, ◌++◌, IfOk, List, Option, OnOk, length, replicate};
 ghost use Rattle.aa_decide_ready.specs.Entries.{Loaded};
@@ -12,7 +12,7 @@ use aa_glob::{Automaton, AutomatonBuilder, Steps};
 use aa_glob_pattern::Pattern;
 use std::alloc::{AllocError, Global};
 
-/// One automaton of the attachments of all profiles in some slots, whatever states these are in. Contracts see of which slots it was made
+/// One automaton of the attachments of all profiles in some slots, whatever their states. Contracts see of which slots it was made
 /// (`IsAttachmentIndexOf`).
 #[derive(Drop)]
 pub struct AttachmentIndex {
@@ -21,7 +21,7 @@ pub struct AttachmentIndex {
     owners: Sequence<usize>,
 }
 
-// The attachments of the profile that a slot holds, if it holds one.
+// The attachments of the profile in a slot; none where it is empty.
 fn attachments_in(slot: &Option<Entry>) -> &[Pattern]
     ensures { result.now ≡ attachments_in slot.now }
 {
@@ -31,7 +31,7 @@ fn attachments_in(slot: &Option<Entry>) -> &[Pattern]
     }
 }
 
-// Puts a slot behind others, so many times.
+// Appends a slot `count` times.
 fn push_owner(owners: &mut Vec<usize>, slot: usize, count: usize) -> Result<(), AllocError>
     ensures { OnOk result (owners.new.items ≡ owners.old.items ++ replicate count slot) }
 {
@@ -42,7 +42,7 @@ fn push_owner(owners: &mut Vec<usize>, slot: usize, count: usize) -> Result<(), 
 }
 
 impl AttachmentIndex {
-    /// The attachments in these slots.
+    /// The index of the attachments in these slots.
     ///
     /// # Errors
     ///
@@ -63,7 +63,7 @@ impl AttachmentIndex {
         })
     }
 
-    /// The slots of which an attachment matches a path, from 0, in rising order.
+    /// The slots whose profile has an attachment that matches a path, from 0, in rising order.
     ///
     /// # Errors
     ///

@@ -1,4 +1,4 @@
-//! What confines a task by a loaded profile.
+//! What confines a task, by a loaded profile.
 
 ghost use Rattle.std.specs.Prelude.{◌≡◌};
 ghost use Rattle.aa_decide_ready.specs.Confinement.{confined, found, in_state, mode_at};
@@ -14,18 +14,18 @@ use aa_profile_data::Mode;
 pub enum Confinement<'a> {
     /// Nothing.
     Unconfined,
-    /// A profile, or a child or hat of it, in mode unconfined: it gives its name, and none of its rules is asked.
+    /// A profile, or a child or hat of it, in mode unconfined: it gives its name, and none of its rules is looked at.
     ByName,
-    /// A profile, or a child or hat of it, whose rules are asked.
+    /// A profile, or a child or hat of it, whose rules decide.
     By {
-        /// What decides of it.
+        /// The rules and attachments of it.
         section: ReadySection<'a>,
-        /// What becomes of what its rules don't allow.
+        /// What happens to what its rules don't allow.
         mediation: Mediation,
     },
 }
 
-// The mode of a profile, or of its child or hat at a place.
+// The mode of a profile, or of its child or hat at an index.
 fn mode_at(modes: &[Mode], child: Option<usize>) -> Mode
     ensures { result ≡ mode_at modes.now child }
 {
@@ -41,7 +41,7 @@ fn mode_at(modes: &[Mode], child: Option<usize>) -> Mode
     }
 }
 
-// What confines a task by a profile, child or hat in force in a mode.
+// What confines a task, by a profile, child or hat in force in a mode.
 fn confined<'a>(section: ReadySection<'a>, mode: Mode) -> Confinement<'a>
     ensures { found result ≡ confined (seen_section section.entry) mode }
 {
@@ -59,8 +59,8 @@ fn confined<'a>(section: ReadySection<'a>, mode: Mode) -> Confinement<'a>
 }
 
 impl Entry {
-    /// What confines a task by this profile, or by its child or hat at a place: nothing, where the profile is disabled, and its name alone, where it
-    /// is in mode unconfined. It takes no memory.
+    /// What confines a task, by this profile, or by its child or hat at an index: nothing, where the profile is disabled, and its name alone, where
+    /// it is in mode unconfined. It takes no memory.
     pub fn confinement(&self, child: Option<usize>) -> Confinement<'_>
         ensures { found result ≡ in_state self.now.profile self.now.state child }
     {

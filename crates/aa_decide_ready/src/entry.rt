@@ -1,4 +1,4 @@
-//! Loaded profiles with their states.
+//! Loaded profiles, with their states.
 
 ghost use Rattle.std.specs.Prelude.{◌≡◌, true};
 ghost use Rattle.aa_decide_ready.specs.Entries.{fits, is_in_force, state_left, with_state};
@@ -13,9 +13,9 @@ use std::mem;
 /// The state of a loaded profile.
 #[derive(Drop)]
 pub enum State {
-    /// The profile and its children are out of force.
+    /// The profile and its children aren't in force.
     Disabled,
-    /// They are in force: in the first mode the profile, and in one each its children and hats, in their order.
+    /// They are in force: the first mode is the profile's, and the others are those of its children and hats, in their order.
     Modes(Sequence<Mode>),
 }
 
@@ -26,7 +26,7 @@ pub struct Entry {
 }
 
 impl Drop for Entry {
-    // Proved here, once for all crates that own one.
+    // Proved here, once for all crates that own an entry.
     fn drop(self) {
         let Entry { ready, state } = self;
         drop(ready);
@@ -56,7 +56,7 @@ impl State {
         }
     }
 
-    /// Whether it fits a profile: it is out of force, or has a mode for the profile and for each of its children and hats. It takes no memory.
+    /// Whether it fits a profile: it is `Disabled`, or has a mode for the profile and for each of its children and hats. It takes no memory.
     pub fn fits(&self, profile: &Profile) -> bool
         ensures { result ≡ fits profile.now self.now }
     {
@@ -68,7 +68,7 @@ impl State {
 }
 
 impl Entry {
-    /// A profile in a state that fits it. It takes no memory.
+    /// A profile with a state that fits it. It takes no memory.
     pub fn new(ready: Ready, state: State) -> Entry
         requires { fits ready state ≡ true }
         ensures { result ≡ record { profile = ready; state = state } }
@@ -83,7 +83,7 @@ impl Entry {
         &self.ready.profile
     }
 
-    /// The profile, ready for requests.
+    /// The ready profile.
     pub fn ready(&self) -> &Ready
         ensures { result.now ≡ self.now.profile }
     {
@@ -98,8 +98,7 @@ impl Entry {
         &self.state
     }
 
-    /// Exchanges the state for another, which then holds the one from before. One that doesn't fit the profile is left,
-    /// and so is the entry. It takes no memory.
+    /// Swaps the state with another. One that doesn't fit the profile isn't taken, and nothing changes then. It takes no memory.
     pub fn exchange_state(&mut self, state: &mut State)
         ensures entry { self.new ≡ with_state state.old self.old }
         ensures state { state.new ≡ state_left state.old self.old }
@@ -109,14 +108,14 @@ impl Entry {
         }
     }
 
-    /// Remembers what follows at the places of a path, and tells whether all of it is remembered now (`Ready::remember`).
+    /// Remembers which states are live at the places of a path, and returns whether all of this is remembered now (`Ready::remember`).
     pub fn remember(&mut self, alloc: Global, child: Option<usize>, path: &[u8]) -> bool
         ensures { self.new ≡ self.old }
     {
         self.ready.remember(alloc, child, path)
     }
 
-    /// Forgets what was remembered, of the profile or of its child or hat at a place.
+    /// Forgets what was remembered for the profile, or for its child or hat at an index, and frees its memory.
     pub fn forget(&mut self, alloc: Global, child: Option<usize>)
         ensures { self.new ≡ self.old }
     {

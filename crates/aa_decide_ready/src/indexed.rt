@@ -1,4 +1,4 @@
-//! Slots with what is kept beside them.
+//! Slots with indices over them.
 
 ghost use Rattle.std.specs.Prelude.{◌≡◌, IfOk, IfSome};
 ghost use Rattle.aa_decide_ready.specs.SlotAttachments.{AreAttaching};
@@ -12,8 +12,8 @@ use crate::slots::slot_named;
 use std::alloc::{AllocError, Global};
 use std::marker::Model;
 
-/// Slots, each of which is empty or holds a loaded profile, with what is kept beside them to find names and attachments without going over all, where
-/// something is. Contracts see the list of the slots alone: whether something is kept changes no answer.
+/// Slots, each of which is empty or holds a loaded profile, with indices of names and attachments, where these were made. Contracts see the list of
+/// the slots alone: indices change no answer.
 #[derive(Drop)]
 pub struct IndexedSlots<'a> {
     slots: &'a [Option<Entry>],
@@ -36,7 +36,7 @@ impl<'a> Model for IndexedSlots<'a> {
 }
 
 impl<'a> IndexedSlots<'a> {
-    /// Slots beside which nothing is kept. It takes no memory.
+    /// Slots without indices. It takes no memory.
     pub fn of(slots: &'a [Option<Entry>]) -> IndexedSlots<'a>
         ensures { result ≡ slots.now }
     {
@@ -47,7 +47,7 @@ impl<'a> IndexedSlots<'a> {
         }
     }
 
-    /// Slots with what was made of them. It takes no memory.
+    /// Slots with the indices that were made of them. It takes no memory.
     pub fn with(
         slots: &'a [Option<Entry>],
         names: Option<&'a NameIndex>,
@@ -71,12 +71,12 @@ impl<'a> IndexedSlots<'a> {
         self.slots
     }
 
-    // Whether names are found without going over the slots.
+    // Whether there is an index of names.
     pub(crate) fn has_names(&self) -> bool {
         self.names.is_some()
     }
 
-    /// The first slot that holds a profile of this name, from 0. It takes no memory.
+    /// The first slot whose profile has this name, from 0. It takes no memory.
     pub fn slot_named(&self, name: &[u8]) -> Option<usize>
         ensures { result ≡ slot_named name.now self.now }
     {
@@ -86,7 +86,8 @@ impl<'a> IndexedSlots<'a> {
         }
     }
 
-    /// The slots of which an attachment can match a path, from 0, in rising order: those of which one does where that is kept, and else all.
+    /// The slots whose profile may have an attachment that matches a path, from 0, in rising order: with an index of attachments those that have
+    /// one, and else all.
     ///
     /// # Errors
     ///
@@ -101,7 +102,7 @@ impl<'a> IndexedSlots<'a> {
     }
 }
 
-// The places of so many slots.
+// The numbers below `count`, in rising order.
 fn all_places(alloc: Global, count: usize) -> Result<Vec<usize>, AllocError>
     ensures { IfOk result (λ places. ArePlaces count places.items) }
 {

@@ -1,5 +1,5 @@
-//! What is made ready of a profile: automata of its rules and of its attachments, by which it decides; and loaded profiles with their states in slots, with
-//! what is kept beside these to find names and attachments without going over all.
+//! Profiles made ready to decide: automata of their rules and attachments; loaded profiles with their states in slots; and indices over the slots,
+//! by which names and attachments are found without going over all.
 #![tactic(auto)]
 
 mod attachments;

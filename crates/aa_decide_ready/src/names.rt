@@ -1,4 +1,4 @@
-//! The slots of names.
+//! The index of names.
 
 ghost use Rattle.std.specs.Prelude.{◌≡◌, IfOk, OnOk, List, Option};
 ghost use Rattle.aa_decide_ready.specs.Entries.{Loaded};
@@ -9,14 +9,14 @@ use crate::entry::Entry;
 use aa_bytes::NameMap;
 use std::alloc::{AllocError, Global};
 
-/// Each name of a profile in some slots, with the first of these that holds it. Contracts see of which slots it was made (`IsNameIndexOf`).
+/// Each name of a profile in some slots, with the first slot that has it. Contracts see of which slots it was made (`IsNameIndexOf`).
 #[derive(Drop)]
 pub struct NameIndex {
     slots: NameMap,
 }
 
 impl NameIndex {
-    /// The names in these slots. It takes the bytes of each name and some 60 more.
+    /// The index of the names in these slots. It takes the bytes of each name and some 60 more.
     ///
     /// # Errors
     ///
@@ -33,7 +33,7 @@ impl NameIndex {
         Ok(index)
     }
 
-    // Notes a slot with the name that it holds, if the name has none yet.
+    // Adds the name in a slot, if it isn't there yet.
     fn note(&mut self, alloc: Global, slot: &Option<Entry>, place: usize) -> Result<(), AllocError>
         ensures { OnOk result (NotesSlot self.old slot.now place self.new) }
     {
@@ -46,7 +46,7 @@ impl NameIndex {
         Ok(())
     }
 
-    /// The first slot that holds a profile of this name, from 0. It takes no memory.
+    /// The first slot whose profile has this name, from 0. It takes no memory.
     pub fn slot(&self, name: &[u8]) -> Option<usize>
         ensures { (slots : List (Option Loaded)) → IsNameIndexOf self.now slots → result ≡ slot_named name.now slots }
     {

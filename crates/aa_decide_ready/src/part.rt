@@ -1,4 +1,4 @@
-//! What is made ready of a profile, and of each of its children and hats.
+//! Automata of a profile, and of each of its children and hats.
 
 ghost use Rattle.std.specs.Prelude.{◌≡◌, ◌++◌, ◌∷◌, [], ℕ, List, IfOk, OnOk};
 ghost use Rattle.std.specs.List.Sorted.{IsStrictlyIncreasing};
@@ -19,25 +19,25 @@ use aa_glob_pattern::Pattern;
 use aa_profile_data::{Child, Rule, which_rules_match};
 use std::alloc::{AllocError, Global};
 
-/// What is made of the file rules among some rules.
+/// The automaton of the file rules among some rules.
 #[derive(Drop)]
 pub struct FileRules {
     // The automaton of their patterns, in the order of the rules.
     automaton: Automaton,
-    // Where they stand among all rules.
+    // Their places (indices) among all rules.
     places: Sequence<usize>,
 }
 
-/// What is made of a profile, or of a child or hat.
+/// The automata of a profile, or of a child or hat.
 #[derive(Drop)]
 pub struct Part {
-    // What is made of the file rules: nothing, until a path is remembered for the first time.
+    // The automaton of the file rules, once a path was remembered.
     files: Option<FileRules>,
     // The automaton of the attachments.
     attachments: Automaton,
 }
 
-// The same with the pattern of a rule more, if it is one on files.
+// Adds the pattern of a rule, if it is a file rule.
 fn with_file(
     builder: AutomatonBuilder,
     alloc: Global,
@@ -53,7 +53,7 @@ fn with_file(
     }
 }
 
-/// The same with the patterns of the file rules among some more, in their order.
+/// Adds the patterns of the file rules among some rules, in their order.
 ///
 /// # Errors
 ///
@@ -83,7 +83,7 @@ fn files_of(alloc: Global, rules: &[Rule]) -> Result<Automaton, AllocError>
     Ok(added.finish())
 }
 
-/// The places of the file rules among some rules, in rising order.
+/// The places (indices) of the file rules among some rules, in rising order.
 ///
 /// # Errors
 ///
@@ -104,7 +104,7 @@ pub fn file_places(alloc: Global, rules: &[Rule]) -> Result<Vec<usize>, AllocErr
     Ok(places)
 }
 
-/// What stands at some places of a list, in the order of the places. Places behind its end pick nothing.
+/// The numbers at some places of a list, in the order of the places. Places past the end are left out.
 ///
 /// # Errors
 ///
@@ -124,7 +124,7 @@ pub fn picked(alloc: Global, numbers: &[usize], places: &[usize]) -> Result<Vec<
 }
 
 impl FileRules {
-    /// What is made of the file rules among these.
+    /// The automaton of the file rules among these.
     ///
     /// # Errors
     ///
@@ -166,7 +166,7 @@ impl FileRules {
         picked(alloc, self.places.as_slice(), found.as_slice())
     }
 
-    // Remembers what follows at the places of a path (`Automaton::remember`), and reports whether all of it is remembered now.
+    // Remembers which states are live at the places of a path (`Automaton::remember`), and returns whether all of this is remembered now.
     fn remember(&mut self, alloc: Global, path: &[u8]) -> bool
         ensures { self.new ≡ self.old }
     {
@@ -182,7 +182,7 @@ impl FileRules {
 }
 
 impl Part {
-    /// What is made of some rules and these attachments at first: of the rules nothing yet.
+    /// The part for some rules and these attachments: the automaton of the rules isn't built yet.
     ///
     /// # Errors
     ///
@@ -196,11 +196,11 @@ impl Part {
         })
     }
 
-    /// How many states the automaton of the file rules has, of which the part was made.
+    /// How many states the automaton of the file rules has, among the rules of which the part was made.
     ///
     /// # Errors
     ///
-    /// Where memory runs out: where nothing was made of the rules yet, it is made for this.
+    /// Where memory runs out: an automaton that isn't built yet is built for this.
     pub fn states(&self, alloc: Global, rules: &[Rule]) -> Result<usize, AllocError>
         ensures states { (attachments : List (List ℕ)) → IsPartOf self.now rules.now attachments
             → IfOk result (HasStates (file_patterns rules.now)) }
@@ -212,8 +212,8 @@ impl Part {
         }
     }
 
-    /// The places of the file rules whose pattern matches a path, among the rules of which the part was made. Where nothing was made of these yet, it is
-    /// made for this question alone.
+    /// The places of the file rules whose pattern matches a path, among the rules of which the part was made. An automaton that isn't built yet is
+    /// built for this question alone.
     ///
     /// # Errors
     ///
@@ -259,7 +259,7 @@ impl Part {
         self.attachments.matching(alloc, path, steps)
     }
 
-    // Makes what is made of the file rules among those of which the part was made, if that wasn't done yet and there is memory for it.
+    // Builds the automaton of the file rules, if it isn't built yet and there is memory for it.
     fn make_files(&mut self, alloc: Global, rules: &[Rule])
         ensures { (attachments : List (List ℕ)) → IsPartOf self.old rules.now attachments → IsPartOf self.new rules.now attachments }
     {
@@ -271,7 +271,7 @@ impl Part {
         }
     }
 
-    // Remembers what follows at the places of a path, as far as something was made of the file rules.
+    // Remembers which states are live at the places of a path, if the automaton of the file rules is built.
     fn remember_made(&mut self, alloc: Global, path: &[u8]) -> bool
         ensures { self.new ≡ self.old }
     {
@@ -281,8 +281,8 @@ impl Part {
         }
     }
 
-    /// Remembers what follows at the places of a path, of the file rules among those of which the part was made (`Automaton::remember`), and reports
-    /// whether all of it is remembered now.
+    /// Remembers which states are live at the places of a path, in the automaton of the file rules (`Automaton::remember`), and returns whether all
+    /// of this is remembered now.
     pub fn remember(&mut self, alloc: Global, rules: &[Rule], path: &[u8]) -> bool
         ensures { (attachments : List (List ℕ)) → IsPartOf self.old rules.now attachments → IsPartOf self.new rules.now attachments }
     {

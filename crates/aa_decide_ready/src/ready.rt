@@ -1,4 +1,4 @@
-//! Profiles that requests are decided by.
+//! Profiles made ready to decide.
 
 ghost use Rattle.std.specs.Prelude.{◌≡◌, true, IfOk, MatchOption};
 ghost use Rattle.aa_decide_ready.specs.code.Parts.{ArePartsOf, HasNothingAt, IsPartAt};
@@ -9,14 +9,14 @@ use aa_profile_data::{Child, Profile};
 use std::alloc::{AllocError, Global};
 use std::marker::Model;
 
-/// A profile that requests are decided by, no two rules of which conflict, nor any two of a child or hat of it. Contracts see the profile alone.
+/// A profile made ready to decide, no two rules of which conflict, nor any two of a child or hat of it. Contracts see the profile alone.
 #[derive(Drop)]
 pub struct Ready {
     /// The profile.
     pub profile: Profile,
-    // What was made of its own rules and attachments.
+    // The automata of its own rules and attachments.
     own: Part,
-    // What was made of those of each child and hat.
+    // The automata of each child and hat.
     parts: Vec<Part>,
 }
 
@@ -37,7 +37,7 @@ impl Model for Ready {
         × IsTrue (profile_agrees r.profile) };
 }
 
-// Remembers what follows at the places of a path, of the rules of the child or hat at a place, if there is one, and reports whether all of it is
+// Remembers which states are live at the places of a path, for the child or hat at an index, if there is one, and returns whether all of this is
 // remembered now.
 fn remember_child(
     alloc: Global,
@@ -56,8 +56,8 @@ fn remember_child(
 }
 
 impl Ready {
-    /// A profile whose rules agree, made ready: an automaton is made of its attachments, and one of those of each child and hat. One of the patterns of
-    /// file rules is made where the first path is remembered (`remember`), and till then for each question anew.
+    /// Makes a profile ready whose rules agree: builds an automaton of its attachments, and one for each child and hat. That of the patterns of file
+    /// rules is built where the first path is remembered (`remember`), and until then for each question anew.
     ///
     /// # Errors
     ///
@@ -75,7 +75,7 @@ impl Ready {
         })
     }
 
-    // What was made of the rules and attachments of the profile, or of its child or hat at a place.
+    // The automata of the profile, or of its child or hat at an index.
     pub(crate) fn part_at(&self, child: Option<usize>) -> Option<&Part>
         ensures { MatchOption result (HasNothingAt self.now child) (λ part. IsPartAt self.now child part.now) }
     {
@@ -85,10 +85,10 @@ impl Ready {
         }
     }
 
-    /// Remembers what follows at the places of a path, of the rules of the profile, or of its child or hat at a place, and tells whether all of it is
-    /// remembered now: so questions about this path are answered quicker from now on, and others as far as they go the same ways. Contracts don't see it.
-    /// It takes at most some 7 MB for the profile and for each child and hat (docs/PERFORMANCE.md, "What is remembered"). Where there is no room, or no
-    /// memory, no more is remembered.
+    /// Remembers which states are live at the places of a path, in the automaton of the file rules of the profile, or of its child or hat at an
+    /// index, and returns whether all of this is remembered now: later questions about this path are answered quicker, and those about other paths
+    /// as far as they reach the same states together. No answer changes, and contracts don't see it. It takes at most some 7 MB for the profile and
+    /// for each child and hat (docs/PERFORMANCE.md, "What is remembered"). Where there is no room, or no memory, no more is remembered.
     pub fn remember(&mut self, alloc: Global, child: Option<usize>, path: &[u8]) -> bool
         ensures { self.new ≡ self.old }
     {
@@ -108,7 +108,7 @@ impl Ready {
         }
     }
 
-    /// Forgets what was remembered, of the profile or of its child or hat at a place.
+    /// Forgets what was remembered for the profile, or for its child or hat at an index, and frees its memory.
     pub fn forget(&mut self, alloc: Global, child: Option<usize>)
         ensures { self.new ≡ self.old }
     {

@@ -1,4 +1,4 @@
-//! What decides of a profile that was made ready, or of a child or hat of it.
+//! The rules and attachments by which a ready profile decides, or a child or hat of it.
 
 ghost use Rattle.std.specs.Prelude.{◌≡◌, true, IfOk, OnOk, OnErr};
 ghost use Rattle.std.specs.List.{All};
@@ -23,18 +23,18 @@ use aa_glob_pattern::{Pattern, how_many_states_there_are};
 use aa_profile_data::{Request, Rule, which_rules_match};
 use std::alloc::{AllocError, Global};
 
-/// A profile that was made ready, or a child or hat of it: what it decides by, lent. One that isn't there has no rules and no attachments.
+/// The rules and attachments of a ready profile, or of a child or hat of it, lent. One that doesn't exist has no rules and no attachments.
 #[derive(Clone, Copy)]
 pub struct ReadySection<'a> {
-    /// Whether its flag audits each of its rules.
+    /// Whether its flag `audit` applies to each of its rules.
     pub audit: bool,
-    /// The rules by which it decides, whatever the others of its profile say.
+    /// The rules by which it decides; those of its parent or children play no part.
     pub rules: &'a [Rule],
     /// The patterns of its attachments.
     pub attachments: &'a [Pattern],
     // The profile,
     ready: &'a Ready,
-    // and the place of the child or hat among its children; none where it is the profile itself.
+    // and the index of the child or hat among its children; `None` where it is the profile itself.
     child: Option<usize>,
     ghost own: { rules.now ≡ rules_at ready.now child },
     ghost attached: { attachments.now ≡ attachments_at ready.now child },
@@ -49,7 +49,7 @@ fn pattern_reads(rule: &Rule)
     }
 }
 
-// So does that of each of some rules.
+// The patterns of all of some rules read.
 fn patterns_read(rules: &[Rule])
     ensures { All HasReadPattern rules.now }
 {
@@ -64,7 +64,7 @@ impl Ready {
     ghost use Rattle.aa_decide_ready.specs.Sections.{section_at};
     ghost use Rattle.aa_decide_ready.specs.SeenSections.{seen_section};
 
-    /// What decides of the profile, or of its child or hat at a place. It takes no memory.
+    /// The rules and attachments of the profile, or of its child or hat at an index. It takes no memory.
     pub fn section(&self, child: Option<usize>) -> ReadySection<'_>
         ensures { seen_section result ≡ section_at self.now child }
     {
@@ -101,7 +101,7 @@ impl<'a> ReadySection<'a> {
     ghost use Rattle.aa_decide_ready.specs.Sections.{decided_by};
     ghost use Rattle.aa_decide_ready.specs.SeenSections.{seen_section};
 
-    /// Of the rules no two conflict, and the pattern of each on files reads (docs/policy.md, "Rules that conflict").
+    /// No two of the rules conflict, and the patterns of those on files read (docs/policy.md, "Rules that conflict").
     pub fn rules_agree(self)
         ensures agree { agree self.entry.rules.now ≡ true }
         ensures read { All HasReadPattern self.entry.rules.now }
@@ -111,11 +111,11 @@ impl<'a> ReadySection<'a> {
         patterns_read(self.rules);
     }
 
-    /// How many states the automaton has that a request for a file asks (docs/policy.md, "Decisions").
+    /// How many states the automaton has that decides requests for files (docs/policy.md, "Decisions").
     ///
     /// # Errors
     ///
-    /// Where memory runs out: where nothing was made of the rules yet, it is made for this.
+    /// Where memory runs out: an automaton that isn't built yet is built for this.
     pub fn states(self, alloc: Global) -> Result<usize, AllocError>
         ensures states { IfOk result (HasStates (file_patterns self.entry.rules.now)) }
         ensures few { IfOk result (AreFewStates self.entry.rules.now) }
@@ -171,9 +171,9 @@ impl<'a> ReadySection<'a> {
         }
     }
 
-    /// What is said of a request: by the rules of the profile, child or hat itself, whatever those of the others say (apparmor.d(5);
-    /// docs/policy.md, "Decisions"). One that isn't there allows nothing. A request for a file is asked of one automaton, whose visits are counted;
-    /// any other goes over the rules, and takes neither visits nor memory.
+    /// Decides a request by the rules of the profile, child or hat itself; those of its parent or children play no part (apparmor.d(5);
+    /// docs/policy.md, "Decisions"). One that doesn't exist allows nothing. For a file, one automaton is run over the path, whose visits `steps`
+    /// counts; for any other request the rules are gone over, in `O(n)` for n rules and without memory.
     ///
     /// # Errors
     ///

@@ -14,10 +14,10 @@ use crate::names::NameIndex;
 use aa_profile_data::Profile;
 use std::alloc::{AllocError, Global};
 
-// For so many names the slots are gone over once for each.
+// Up to so many names are looked up by going over the slots for each.
 const FEW: usize = 32;
 
-/// The entry in a slot, if it is there and filled. It takes no memory.
+/// The entry in a slot, if it exists and is filled. It takes no memory; `O(1)`.
 pub fn entry_at(slots: &[Option<Entry>], slot: usize) -> Option<&Entry>
     ensures { option_copied result ≡ entry_at slots.now slot }
 {
@@ -37,14 +37,14 @@ fn holds(slot: &Option<Entry>, name: &[u8]) -> bool
     }
 }
 
-/// The first slot that holds a profile of this name, from 0, by going over all.
+/// The first slot whose profile has this name, from 0. `O(n)` in the number of slots. It takes no memory.
 pub fn slot_named(slots: &[Option<Entry>], name: &[u8]) -> Option<usize>
     ensures { result ≡ slot_named name.now slots.now }
 {
     slots.iter().position(|slot| holds(slot, name))
 }
 
-/// The entry whose profile has this name, in whatever state it is, and its slot. It takes no memory.
+/// The entry whose profile has this name, in whatever state it is, and its slot; `None` where there is none. It takes no memory.
 pub fn find_named<'a>(slots: &IndexedSlots<'a>, name: &[u8]) -> Option<(usize, &'a Entry)>
     ensures slot { option_map (λ found. found.0) result ≡ slot_named name.now slots.now }
     ensures found { option_map (λ found. found.1.now) result ≡ entry_named name.now (filled slots.now) }
@@ -78,7 +78,7 @@ fn one_by_one(
     Ok(found)
 }
 
-// The same, by an index of the names.
+// The first slot for each of these profiles, in their order, by an index of the names.
 fn by_names(
     alloc: Global,
     names: &NameIndex,
@@ -93,8 +93,8 @@ fn by_names(
     Ok(found)
 }
 
-/// For each of these profiles, in their order, the first slot that holds a profile of its name, from 0. It goes over the slots once at most, unless
-/// there are few profiles, for which it takes less memory.
+/// For each of these profiles, in their order, the first slot whose profile has its name, from 0. The slots are gone over at most once, unless the
+/// profiles are few, where that takes less memory.
 ///
 /// # Errors
 ///

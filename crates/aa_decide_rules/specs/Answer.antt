@@ -1,4 +1,4 @@
--- The words that answers are told in (docs/commands.md).
+-- The words that answers are printed with (docs/commands.md).
 use Rattle.std.specs.Prelude.{ℕ, List, codes}
 use Rattle.aa_decide_rules.specs.declared.verdict.Answer.{Answer}
 use Rattle.aa_decide_rules.specs.declared.verdict.Answer.TheVariants.{Allow, Deny, Refuse, Complain}

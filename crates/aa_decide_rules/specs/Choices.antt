@@ -1,4 +1,4 @@
--- What rules say together of a program that is started (docs/policy.md, "Exec and attachment").
+-- What rules say together of the start of a program (docs/policy.md, "Exec and attachment").
 use Rattle.std.specs.Prelude.{◌≡◌, ℕ, Bool, true, false, ◌&&◌, if◌then◌else◌, List, [], ◌∷◌, Option, None, Some}
 use Rattle.std.specs.List.{list_any}
 use Rattle.std.specs.List.Sorted.{IsStrictlyIncreasing}
@@ -10,7 +10,7 @@ use Rattle.aa_profile_data.specs.declared.profile.Transition.{Transition}
 use Rattle.aa_profile_data.specs.Matching.{AreMatchingRules}
 use Rattle.aa_decide_rules.specs.ExecRules.{Denying, ExecRule, Leading, exec_rules}
 
--- What rules say together: that it is denied; nothing; or where it leads.
+-- What rules say together: that the start is denied; nothing; or where it leads.
 pub data Choice : Type 0 where
   Denied : (audited : Bool) → Choice
   Missing : Choice
@@ -24,12 +24,12 @@ abbrev pub denies_aloud : ExecRule → Bool
 denies_aloud (Denying audited) = audited
 denies_aloud (Leading transition rank audited) = false
 
--- A rule leads somewhere with this rank. Those that do so with the highest one decide where to go.
+-- A rule leads somewhere with this rank. The rules that do so with the highest rank decide where to go.
 abbrev pub dominates : Rank → ExecRule → Bool
 dominates rank (Denying audited) = false
 dominates rank (Leading transition own audited) = same_rank own rank
 
--- the highest rank with which some rule leads somewhere, and the last where none does
+-- the highest rank with which some rule leads somewhere, and the last rank where none does
 abbrev pub highest : List ExecRule → Rank
 highest rules = if list_any (dominates Plain) rules then Plain else if list_any (dominates Loose) rules then Loose else Last
 
@@ -37,20 +37,21 @@ abbrev pub leads_aloud : Rank → ExecRule → Bool
 leads_aloud rank (Denying audited) = false
 leads_aloud rank (Leading transition own audited) = audited && same_rank own rank
 
--- where the first rule that leads with this rank does
+-- where the first rule of this rank leads
 abbrev pub first_lead : Rank → List ExecRule → Option Transition
 first_lead rank [] = None
 first_lead rank (Denying audited ∷ rules) = first_lead rank rules
 first_lead rank (Leading transition own audited ∷ rules) = if same_rank own rank then Some transition else first_lead rank rules
 
--- Where rules lead of which none denies: where the first rule that dominates does. In rules that agree all of these lead to one place (LeadOneWay).
+-- Where rules lead of which none denies: where the first rule that dominates leads. In rules that agree all dominating rules lead to one place
+-- (LeadOneWay).
 abbrev pub chosen : Rank → List ExecRule → Choice
 chosen rank rules = elim (first_lead rank rules) [
   | None ↦ Missing
   | Some first ↦ Leads first (list_any (leads_aloud rank) rules)
 ]
 
--- A rule that denies decides before all others.
+-- A rule that denies decides before all other rules.
 abbrev pub choice_of : List ExecRule → Choice
 choice_of rules = if list_any denies rules then Denied (list_any denies_aloud rules) else chosen (highest rules) rules
 
@@ -58,7 +59,7 @@ choice_of rules = if list_any denies rules then Denied (list_any denies_aloud ru
 abbrev pub choice : Bool → Bool → List ℕ → List Rule → Choice
 choice flag owned path rules = choice_of (exec_rules flag owned path rules)
 
--- This is what the rules of a profile say together, wherever these are the places of those that match the path.
+-- The rules of a profile say this together, wherever these are the indexes of the rules that match the path.
 abbrev pub IsChoiceFor : Bool → Bool → List Rule → List ℕ → Choice → Type 0
 IsChoiceFor flag owned rules places found =
     (path : List ℕ) → AreMatchingRules rules path places → IsStrictlyIncreasing places → found ≡ choice flag owned path rules

@@ -1,4 +1,4 @@
--- What rules say of a program that is started (apparmor.d(5), "Execute Rules"; docs/policy.md, "Exec and attachment").
+-- What rules say of the start of a program (apparmor.d(5), "Execute Rules"; docs/policy.md, "Exec and attachment").
 use Rattle.std.specs.Prelude.{ℕ, Bool, not, ◌&&◌, ◌||◌, if◌then◌else◌, List, [], ◌∷◌, Option, None, Some}
 use Rattle.aa_glob_syntax.specs.Matching.{matches}
 use Rattle.aa_glob_syntax.specs.Reading.{items_of}
@@ -9,7 +9,7 @@ use Rattle.aa_profile_data.specs.declared.profile.Rule.{Rule}
 use Rattle.aa_profile_data.specs.declared.profile.Rule.TheVariants.{File}
 use Rattle.aa_profile_data.specs.declared.profile.Transition.{Transition}
 
--- What a rule says of a program that is started: that it may not be, or where it leads and with which rank; and each is logged or not.
+-- What a rule says of the start of a program: that it is denied, or where it leads and with which rank; and whether that is logged.
 pub data ExecRule : Type 0 where
   Denying : (audited : Bool) → ExecRule
   Leading : (transition : Transition) (rank : Rank) (audited : Bool) → ExecRule
@@ -19,7 +19,7 @@ abbrev pub applies_to : Bool → List ℕ → FileRule → Bool
 applies_to owned path rule = matches (items_of rule.pattern) path && (not rule.owner || owned)
 
 -- What a rule that applies says: a deny rule that covers the start of programs denies it, and an allow rule leads where its exec word says. The flag
--- says whether each rule is audited, whatever its own words are.
+-- audits each rule, whatever its own qualifiers are.
 abbrev pub said_by : Bool → FileRule → Option ExecRule
 said_by flag rule =
     if rule.deny
@@ -31,7 +31,7 @@ abbrev pub said_of : Bool → Bool → List ℕ → Rule → Option ExecRule
 said_of flag owned path (File rule) = if applies_to owned path rule then said_by flag rule else None
 said_of flag owned path _ = None
 
--- what rules say of it, in their order
+-- what rules say of that start, in their order
 abbrev pub exec_rules : Bool → Bool → List ℕ → List Rule → List ExecRule
 exec_rules flag owned path [] = []
 exec_rules flag owned path (rule ∷ rules) = elim (said_of flag owned path rule) [

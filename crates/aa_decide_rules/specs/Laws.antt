@@ -17,11 +17,11 @@ LeadOneWay highest rules =
     → Contains rules (Leading transition rank audited) → dominates highest (Leading transition rank audited) ≡ true
     → transition ≡ first
 
--- of rules that speak of a path those that dominate lead one way
+-- of rules that apply to a path those that dominate lead one way
 abbrev pub RulesLeadOneWay : Bool → Bool → List ℕ → List Rule → Type 0
 RulesLeadOneWay flag owned path rules = LeadOneWay (highest (exec_rules flag owned path rules)) (exec_rules flag owned path rules)
 
--- Where rules agree, those of them that dominate on a path, which is a list of bytes, lead one way.
+-- Where rules agree, the rules that dominate on a path, which is a list of bytes, lead one way.
 abbrev pub AgreeingRulesLeadOneWay : Type 0
 AgreeingRulesLeadOneWay =
     (rules : List Rule)

@@ -1,5 +1,5 @@
--- The lines that log answers, as the kernel's log shows them (docs/commands.md, "Audit lines"). A line has keys with values: numbers, names
--- between quotes, and texts that are written between quotes or in hexadecimal.
+-- The lines that log answers, as the kernel's log shows them (docs/commands.md, "Audit lines"). A line has keys with values: numbers, names in
+-- quotes, and text that is written in quotes or in hexadecimal.
 use Rattle.std.specs.Prelude.{ℕ, List, [], ◌∷◌, ◌++◌, None, Some, codes}
 use Rattle.std.specs.Fmt.{decimal}
 use Rattle.aa_profile_data.specs.Access.{EXEC, letters_of}
@@ -25,12 +25,12 @@ operation (ForFile needs owned path) = codes "file"
 operation (ForCapability number) = codes "capable"
 operation (ForSockets domain kind) = codes "net"
 
--- the key of the mask that is told: what is logged was denied, let through in complain mode alone, or allowed
+-- the key of the mask that is logged: what is logged was denied, let through in complain mode alone, or allowed
 abbrev pub mask_key : Tag → List ℕ
 mask_key Audit = codes " audit_mask="
 mask_key _ = codes " denied_mask="
 
--- a file that was asked for: its path, the letters that were needed, and those that are told
+-- a requested file: its path, the letters that were needed, and the letters that are logged
 abbrev pub file_subject : Tag → ℕ → ℕ → List ℕ → List ℕ
 file_subject tag mask needs path =
     codes " name=" ++ written_text path ++ codes " requested_mask=" ++ quoted (letters_of needs) ++ mask_key tag ++ quoted (letters_of mask)
@@ -42,18 +42,18 @@ abbrev pub socket_subject : ℕ → ℕ → List ℕ
 socket_subject domain kind =
     codes " family=" ++ quoted (name_or_none (domain_name domain)) ++ codes " sock_type=" ++ quoted (name_or_none (kind_name kind))
 
--- what was asked for
+-- what was requested
 abbrev pub subject : Tag → ℕ → Request → List ℕ
 subject tag mask (ForFile needs owned path) = file_subject tag mask needs path
 subject tag mask (ForCapability number) = capability_subject number
 subject tag mask (ForSockets domain kind) = socket_subject domain kind
 
--- how the line of a tag begins: with the operation, and who asked, by full name
+-- how the line of a tag begins: with the operation, and the asker, by full name
 abbrev pub beginning : Tag → List ℕ → List ℕ → List ℕ
 beginning tag operation asker =
     codes "apparmor=" ++ quoted (tag_word tag) ++ codes " operation=" ++ quoted operation ++ codes " profile=" ++ written_text asker
 
--- the line of a tag: who asked, by full name, for what, and the needs that are told
+-- the line of a tag: the asker, by full name, the request, and the needs that are logged
 abbrev pub tagged_line : List ℕ → Request → Tag → ℕ → List ℕ
 tagged_line asker request tag mask = beginning tag (operation request) asker ++ subject tag mask request ++ line_feed ∷ []
 
@@ -68,7 +68,7 @@ log_line asker request verdict = elim verdict.tag [
 abbrev pub tagged_exec_line : List ℕ → List ℕ → Tag → ℕ → List ℕ
 tagged_exec_line asker path tag mask = beginning tag (codes "exec") asker ++ file_subject tag mask EXEC path ++ line_feed ∷ []
 
--- the line that logs a verdict on it
+-- the line that logs a verdict on that start
 abbrev pub exec_line : List ℕ → List ℕ → Verdict → List ℕ
 exec_line asker path verdict = elim verdict.tag [
   | None ↦ []

@@ -1,7 +1,7 @@
--- Words that the laws of ranks are said in.
+-- Definitions for the laws on ranks.
 use Rattle.std.specs.Prelude.{ℕ, ◌<◌, ◌≢◌, List, length, slice_index}
 
--- a rank above 0 stands at a place, and lower ones stand at all others
+-- a rank above 0 is at an index, and lower ones are at all other indexes
 abbrev pub StandsOut : List ℕ → ℕ → Type 0
 StandsOut ranks place =
     (place < length ranks) × (0 < slice_index ranks place)

@@ -7,11 +7,12 @@ use Rattle.aa_glob_syntax.specs.Reading.{items_of, longest}
 abbrev pub greater : ℕ → ℕ → ℕ
 greater one other = if nat_le one other then other else one
 
--- The rank of exact patterns, above all others: no pattern has a longer literal beginning than a pattern may have bytes.
+-- The rank of exact patterns, above all other ranks: no pattern has a longer literal beginning than a pattern may have bytes.
 abbrev pub exact_rank : ℕ
 exact_rank = longest + 2
 
--- The rank of a pattern on a path: 0 where it doesn't match, and else by the length of its literal beginning, but exact ones above all others.
+-- The rank of a pattern on a path: 0 where it doesn't match, and else by the length of its literal beginning, but exact patterns are above all
+-- others.
 abbrev pub rank : List ℕ → List ℕ → ℕ
 rank path pattern =
     if matches (items_of pattern) path

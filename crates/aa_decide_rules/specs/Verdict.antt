@@ -21,7 +21,7 @@ use Rattle.aa_decide_rules.specs.declared.judgement.Mediation.TheVariants.{Compl
 abbrev pub the_need : ℕ
 the_need = 128
 
--- what a request needs, as a set: the letters of a file's, or the one need
+-- what a request needs, as a set: the letters of a request for a file, or the one need
 abbrev pub needs : Request → ℕ
 needs (ForFile letters owned path) = letters
 needs (ForCapability number) = the_need
@@ -34,7 +34,7 @@ is_for_file (ForCapability number) = false
 is_for_file (ForSockets domain kind) = false
 
 -- A rule on files applies where its pattern matches the path and, if it is an owner's rule, the file is owned. A rule on capabilities or sockets
--- applies where it covers what is asked for. No other rule applies.
+-- applies where it covers the request. No other rule applies.
 abbrev pub applies : Request → Rule → Bool
 applies (ForFile letters owned path) (File rule) = matches (items_of rule.pattern) path && (not rule.owner || owned)
 applies (ForCapability number) (Cap rule) = covers_capability number rule
@@ -59,14 +59,14 @@ denies (Cap rule) = rule.deny
 denies (Net rule) = rule.deny
 denies (Other rule) = rule.deny
 
--- a rule is audited by a word of its own, or by the flag of its profile
+-- a rule is audited by its own qualifier, or by the flag of its profile
 abbrev pub is_audited : Bool → Rule → Bool
 is_audited flag (File rule) = flag || rule.audit
 is_audited flag (Cap rule) = flag || rule.audit
 is_audited flag (Net rule) = flag || rule.audit
 is_audited flag (Other rule) = flag || rule.audit
 
--- a deny rule that is audited, and an allow rule that is
+-- an audited deny rule, and an audited allow rule
 abbrev pub denies_aloud : Bool → Rule → Bool
 denies_aloud flag rule = denies rule && is_audited flag rule
 
@@ -80,11 +80,11 @@ allows_aloud flag rule = allows rule && is_audited flag rule
 abbrev pub covers : Request → Rule → ℕ
 covers request rule = if applies request rule then common (needs request) (covered_by rule) else 0
 
--- a set, and the needs that a rule covers, if it passes a test
+-- a set, with the needs added that a rule covers, if it passes a test
 abbrev pub with_rule : Request → (Rule → Bool) → ℕ → Rule → ℕ
 with_rule request test set rule = if test rule then union set (covers request rule) else set
 
--- a set, and the needs that those of some rules cover that pass a test
+-- a set, with the needs added that the rules cover that pass a test
 abbrev pub with_covered : Request → (Rule → Bool) → ℕ → List Rule → ℕ
 with_covered request test set rules = fold (with_rule request test) set rules
 
@@ -92,14 +92,14 @@ with_covered request test set rules = fold (with_rule request test) set rules
 abbrev pub mask : Request → (Rule → Bool) → List Rule → ℕ
 mask request test rules = with_covered request test 0 rules
 
--- the needs that a deny rule covers, and those that an audited one does
+-- the needs that a deny rule covers, and the needs that an audited one covers
 abbrev pub denied : Request → List Rule → ℕ
 denied request rules = mask request denies rules
 
 abbrev pub loud : Bool → Request → List Rule → ℕ
 loud flag request rules = mask request (denies_aloud flag) rules
 
--- the needs that an allow rule covers, and those that an audited one does
+-- the needs that an allow rule covers, and the needs that an audited one covers
 abbrev pub granted : Request → List Rule → ℕ
 granted request rules = mask request allows rules
 
@@ -127,7 +127,7 @@ abbrev pub when_missing : Mediation → ℕ → Verdict
 when_missing Enforcing mask = logged Refuse Denied mask
 when_missing Complaining mask = logged Complain Allowed mask
 
--- A denied need decides first, whatever the mediation; then a missing one. The flag says whether each rule of the profile is audited.
+-- A denied need decides first, whatever the mediation; then a missing one. The flag audits each rule of the profile.
 abbrev pub verdict : Mediation → Bool → List Rule → Request → Verdict
 verdict mediation flag rules request =
     if not (denied request rules == 0) then logged Deny Denied (union (loud flag request rules) (missing request rules)) else

@@ -1,4 +1,4 @@
--- What is about the code: ranks of patterns that match.
+-- Definitions about the code: ranks of patterns that match.
 pub mod MatchingRanks
 pub mod OwnedRules
 pub mod SeenRules

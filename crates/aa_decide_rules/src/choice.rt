@@ -12,17 +12,17 @@ use crate::exec_rules::{ExecRule, exec_rules};
 use aa_profile_data::{Rank, Rule, Transition, which_rules_match};
 use std::alloc::{AllocError, Global};
 
-/// What rules say together of a program that is started.
+/// What rules say together of the start of a program.
 #[derive(Clone, Copy)]
 pub enum ExecChoice<'a> {
-    /// A rule denies it.
+    /// A rule denies the start.
     Denied {
         /// Whether that is logged: one of these rules is audited.
         audited: bool,
     },
-    /// No rule speaks of it.
+    /// No rule applies to the start.
     Missing,
-    /// It leads somewhere.
+    /// The start leads somewhere.
     Leading {
         /// Where it leads.
         transition: &'a Transition,
@@ -50,7 +50,7 @@ impl ExecRule<'_> {
         }
     }
 
-    // Whether a rule leads somewhere with this rank. Those that do so with the highest one decide where to go.
+    // Whether a rule leads somewhere with this rank. Those that do so with the highest rank decide where the program runs.
     fn dominates(self, rank: Rank) -> bool
         ensures { result ≡ dominates rank (seen_rule self.entry) }
     {
@@ -111,7 +111,7 @@ fn some_dominates(rank: Rank, rules: &[ExecRule<'_>]) -> bool
     false
 }
 
-// The highest rank with which some rule leads somewhere, and the last where none does.
+// The highest rank with which some rule leads somewhere; the lowest where none does.
 fn highest(rules: &[ExecRule<'_>]) -> Rank
     ensures { result ≡ highest (seen_rules rules.now) }
 {
@@ -137,7 +137,7 @@ fn some_leads_aloud(rank: Rank, rules: &[ExecRule<'_>]) -> bool
     false
 }
 
-// Where the first rule that leads with this rank does.
+// Where the first rule leads that leads somewhere with this rank.
 fn first_lead<'a>(rank: Rank, rules: &[ExecRule<'a>]) -> Option<&'a Transition>
     ensures { option_map (λ transition. transition.now) result ≡ first_lead rank (seen_rules rules.now) }
 {
@@ -153,7 +153,7 @@ fn first_lead<'a>(rank: Rank, rules: &[ExecRule<'a>]) -> Option<&'a Transition>
     None
 }
 
-// Where rules lead of which none denies.
+// Where rules lead, none of which denies.
 fn chosen<'a>(rank: Rank, rules: &[ExecRule<'a>]) -> ExecChoice<'a>
     ensures { seen_choice result ≡ chosen rank (seen_rules rules.now) }
 {
@@ -179,12 +179,11 @@ fn choice_of<'a>(rules: &[ExecRule<'a>]) -> ExecChoice<'a>
     }
 }
 
-/// What rules say together of the start of the program of a path (docs/policy.md, "Exec and attachment"): that it is
-/// denied, as soon as one deny rule with `x` applies; that no rule speaks of it; or where it leads. Of the rules that
-/// lead somewhere those of the highest rank dominate the others, and it leads where the first that dominates does; in
-/// rules that agree all of them have one transition ([`where_agreeing_rules_lead`](crate::where_agreeing_rules_lead)).
-/// `flag` says whether each of the rules is audited, whatever its own words are: that is the flag of their profile.
-/// `owned` says whether the task's user owns the file. `places` are the places of the rules on files whose pattern
+/// What rules say together of the start of the program of a path (docs/policy.md, "Exec and attachment"): that it is denied, as soon as one deny
+/// rule with `x` applies; that no rule applies to it; or where it leads. Of the rules that lead somewhere those of the highest rank dominate the
+/// others, and it leads where the first that dominates does; in rules that agree all of them have one transition
+/// ([`where_agreeing_rules_lead`](crate::where_agreeing_rules_lead)). `flag` says whether each of the rules is audited, whatever its qualifiers: it
+/// is the flag of their profile. `owned` says whether the task's user owns the file. `places` are the places of the rules on files whose pattern
 /// matches the path, in rising order; it goes over these alone.
 ///
 /// # Errors

@@ -7,14 +7,14 @@ ghost use Rattle.aa_decide_rules.specs.Verdict.{applies, covered_by, covered_by_
 use aa_profile_data::{FileRule, Perms, Request, Rule};
 use bitflags::Flags;
 
-// The need of a request that isn't for a file: there is one, and it is no letter.
+// The need of a request that isn't for a file: its only one, and no letter.
 fn the_need() -> Perms
     ensures { result.0 ≡ the_need }
 {
     Perms::from_bits_retain(128)
 }
 
-/// What a request needs: the letters of one for a file, and of any other its one need, which is no letter.
+/// What a request needs: for a file its letters, and for any other request its only need, which is no letter.
 pub fn needs(request: &Request<'_>) -> Perms
     ensures { result.0 ≡ needs (request_of request.entry.now) }
 {
@@ -25,8 +25,8 @@ pub fn needs(request: &Request<'_>) -> Perms
     }
 }
 
-/// Whether a rule applies to a request: its pattern matches the path, and it isn't the owner's where the file isn't owned; or it covers the
-/// capability or the sockets.
+/// Whether a rule applies to a request: its pattern matches the path, and it hasn't `owner` where the file isn't owned; or it covers the capability
+/// or the sockets. It takes no memory; for a file it costs what `Pattern::matches` does.
 pub fn applies(request: &Request<'_>, rule: &Rule) -> bool
     ensures { result ≡ applies (request_of request.entry.now) rule.now }
 {
@@ -40,7 +40,7 @@ pub fn applies(request: &Request<'_>, rule: &Rule) -> bool
     }
 }
 
-/// The needs that a rule on files covers: those of its letters, and with an exec word `x`.
+/// The needs that a rule on files covers: those of its letters, and `x` where it has an exec word.
 pub fn covered_by_file(rule: &FileRule) -> Perms
     ensures { result.0 ≡ covered_by_file rule.now }
 {
@@ -64,7 +64,7 @@ fn covered_by(rule: &Rule) -> Perms
     }
 }
 
-/// The needs of a request that a rule covers: none, where it doesn't apply.
+/// The needs of a request that a rule covers: none where it doesn't apply. It costs what `applies` does.
 pub fn covers(request: &Request<'_>, rule: &Rule) -> Perms
     ensures { result.0 ≡ covers (request_of request.entry.now) rule.now }
 {
@@ -87,7 +87,7 @@ pub fn denies(rule: &Rule) -> bool
     }
 }
 
-/// Whether a rule is audited, by a word of its own or by the flag of its profile.
+/// Whether a rule is audited, by its own qualifier or by the flag of its profile.
 pub fn is_audited(audit: bool, rule: &Rule) -> bool
     ensures { result ≡ is_audited audit rule.now }
 {

@@ -1,4 +1,4 @@
-//! Where rules lead that agree, and that their order changes nothing of it, as laws over the definitions.
+//! Where rules that agree lead, whatever their order, as laws over the definitions.
 
 ghost use Rattle.std.specs.Prelude.{◌≡◌, ◌<◌, ◌^◌, ℕ, Bool, List, true};
 ghost use Rattle.std.specs.List.{All};
@@ -19,8 +19,8 @@ pub fn where_agreeing_rules_lead()
     how_overlaps_are_tested();
 }
 
-/// Rules that agree say the same together, in whatever order they stand and however often each: their order changes no choice. The patterns of such rules
-/// read, and the path is a list of bytes.
+/// Rules that agree say the same together, in whatever order and however often they are repeated. The patterns of such rules read, and the path is a
+/// list of bytes.
 pub fn order_changes_no_choice()
     ensures { (flag owned : Bool) (path : List ℕ) (rules others : List Rule)
         → HaveSameRules rules others

@@ -1,4 +1,4 @@
-//! The rules that speak of a program that is started.
+//! The rules that apply to the start of a program.
 
 ghost use Rattle.std.specs.Prelude.{◌≡◌, IfOk};
 ghost use Rattle.std.specs.Option.{option_map};
@@ -9,19 +9,19 @@ ghost use Rattle.aa_decide_rules.specs.code.SeenRules.{seen_rule, seen_rules};
 use aa_profile_data::{FileRule, Rank, Rule, Transition};
 use std::alloc::{AllocFailed, Global};
 
-/// What a rule says of a program that is started.
+/// What a rule says of the start of a program.
 #[derive(Clone, Copy)]
 pub enum ExecRule<'a> {
-    /// That it may not be.
+    /// The rule denies the start.
     Denying {
         /// Whether that is logged.
         audited: bool,
     },
-    /// That it may be, and where that leads.
+    /// The rule allows the start, and says where it leads.
     Leading {
         /// Where it leads.
         transition: &'a Transition,
-        /// Before which others that decides.
+        /// Which others it dominates.
         rank: Rank,
         /// Whether it is logged.
         audited: bool,
@@ -50,7 +50,7 @@ fn said_by(rule: &FileRule, flag: bool) -> Option<ExecRule<'_>>
     }
 }
 
-// What a rule says whose pattern matches the path.
+// What a rule says whose pattern matches the path, by whether the file is owned.
 fn said_if_owned(rule: &Rule, flag: bool, owned: bool) -> Option<ExecRule<'_>>
     ensures { option_map seen_rule result ≡ said_if_owned flag owned rule.now }
 {

@@ -12,22 +12,22 @@ use crate::verdict::{Answer, Tag, Verdict};
 use aa_profile_data::{Perms, Request, Rule};
 use bitflags::Flags;
 
-/// What becomes of what the rules don't allow, where none denies it.
+/// What happens to what no rule allows or denies.
 #[derive(Clone, Copy, Debug, PartialEq, Eq)]
 pub enum Mediation {
-    /// It is refused.
+    /// What no rule allows or denies is refused.
     Enforcing,
-    /// It is let through and logged.
+    /// What no rule allows or denies is let through and logged.
     Complaining,
 }
 
 // The needs that rules cover.
 #[derive(Clone, Copy)]
 struct Masks {
-    // Those that deny rules do, and those that audited ones do.
+    // The needs that deny rules cover, and those that audited deny rules do.
     denied: Perms,
     loud: Perms,
-    // Those that allow rules do, and those that audited ones do.
+    // The needs that allow rules cover, and those that audited allow rules do.
     granted: Perms,
     audited: Perms,
 }
@@ -39,7 +39,7 @@ fn letters_among(mask: Perms) -> Perms
     mask.intersection(Perms::from_bits_retain(127))
 }
 
-// An answer, and how it is logged: by this tag, with the letters among these needs, unless there are none.
+// An answer, and how it is logged: with this tag and the letters among these needs, unless these are none.
 fn logged(answer: Answer, tag: Tag, mask: Perms) -> Verdict
     ensures { result ≡ logged answer tag mask.0 }
 {
@@ -50,7 +50,7 @@ fn logged(answer: Answer, tag: Tag, mask: Perms) -> Verdict
     }
 }
 
-// What is said of a request by the needs that rules cover.
+// The verdict on a request by the needs that rules cover.
 fn verdict_by(mediation: Mediation, masks: Masks, request: &Request<'_>) -> Verdict
     ensures { result ≡ verdict_by mediation (request_of request.entry.now) masks.denied.0 masks.loud.0 masks.granted.0 masks.audited.0 }
 {
@@ -68,8 +68,9 @@ fn verdict_by(mediation: Mediation, masks: Masks, request: &Request<'_>) -> Verd
     }
 }
 
-/// What rules say of a request. `audit` says whether each of the rules is audited, whatever its own words are: that is the flag of their
-/// profile. It goes over the rules once, tries the pattern of each on files where the request is for one, and takes no memory.
+/// The verdict of rules on a request. `audit` says whether each of the rules is audited, whatever its qualifiers: it is the flag of their profile.
+/// It takes no memory, and goes over the rules once; for a file each pattern is matched by itself. To decide many requests, use
+/// `ReadySection::decide` of `aa_decide_ready`.
 pub fn rules_verdict(
     mediation: Mediation,
     audit: bool,
@@ -81,8 +82,8 @@ pub fn rules_verdict(
     verdict_by(mediation, masks_of(audit, rules, request), request)
 }
 
-/// What the rules at some places say of a request for a file, where it is known that their pattern matches the file's path and that of no other rule
-/// does: no pattern is tried, and the path isn't looked at (`what_matching_rules_decide`). It takes no memory.
+/// The verdict on a request for a file by the rules at some places, whose patterns are known to match the file's path while that of no other rule
+/// does: no pattern is tried, and the path isn't looked at (`what_matching_rules_decide`). It takes no memory; `O(n)` in the number of places.
 pub fn found_verdict(
     mediation: Mediation,
     audit: bool,
@@ -112,7 +113,7 @@ fn no_masks() -> Masks
     }
 }
 
-// The needs that rules cover of a request.
+// The needs of a request that rules cover.
 fn masks_of(audit: bool, rules: &[Rule], request: &Request<'_>) -> Masks
     ensures denied { result.denied.0 ≡ denied (request_of request.entry.now) rules.now }
     ensures loud { result.loud.0 ≡ loud audit (request_of request.entry.now) rules.now }
@@ -126,7 +127,7 @@ fn masks_of(audit: bool, rules: &[Rule], request: &Request<'_>) -> Masks
     masks
 }
 
-// The needs that the rules at some places cover whose pattern matches.
+// The needs that the rules at some places cover, whose patterns match the path.
 fn found_masks(audit: bool, rules: &[Rule], places: &[usize], needs: Perms, owned: bool) -> Masks
     ensures denied { result.denied.0 ≡ found_mask needs.0 owned denies 0 (picked rules.now places.now) }
     ensures loud { result.loud.0 ≡ found_mask needs.0 owned (denies_aloud audit) 0 (picked rules.now places.now) }
@@ -144,7 +145,7 @@ fn found_masks(audit: bool, rules: &[Rule], places: &[usize], needs: Perms, owne
     masks
 }
 
-// The same with one rule more.
+// The needs with those of one more rule.
 fn with_rule(masks: Masks, audit: bool, rule: &Rule, request: &Request<'_>) -> Masks
     ensures denied { result.denied.0 ≡ with_rule (request_of request.entry.now) denies masks.denied.0 rule.now }
     ensures loud { result.loud.0 ≡ with_rule (request_of request.entry.now) (denies_aloud audit) masks.loud.0 rule.now }
@@ -154,7 +155,7 @@ fn with_rule(masks: Masks, audit: bool, rule: &Rule, request: &Request<'_>) -> M
     with_covered(masks, audit, rule, covers(request, rule))
 }
 
-// The same with the needs that one rule more covers.
+// The needs with those that one more rule covers.
 fn with_covered(masks: Masks, audit: bool, rule: &Rule, covered: Perms) -> Masks
     ensures denied { result.denied.0 ≡ put_if denies masks.denied.0 covered.0 rule.now }
     ensures loud { result.loud.0 ≡ put_if (denies_aloud audit) masks.loud.0 covered.0 rule.now }

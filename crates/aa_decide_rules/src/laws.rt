@@ -1,4 +1,4 @@
-//! What holds of verdicts, as laws over the definitions that `decide` is proved to follow.
+//! Properties of verdicts, as laws over the definitions that `decide` is proved to follow.
 
 ghost use Rattle.std.specs.Prelude.{◌≡◌, ℕ, Bool, List, true, false, ◌∷◌};
 ghost use Rattle.std.specs.List.Sorted.{IsStrictlyIncreasing};
@@ -17,8 +17,8 @@ ghost use Rattle.aa_decide_rules.specs.declared.verdict.Answer.TheVariants.{Allo
 
 use aa_profile_data::which_rules_match;
 
-/// A verdict on a file goes by the rules whose pattern matches its path, and by nothing else of the path: these say by themselves, without a pattern that
-/// is tried, what all rules say.
+/// A verdict on a file depends on the rules whose pattern matches its path, and on nothing else of the path: without any pattern being tried, these
+/// say by themselves what all rules say.
 pub fn what_matching_rules_decide()
     ensures { (mediation : Mediation) (audit : Bool) (rules : List Rule) (letters : ℕ) (owned : Bool) (path places : List ℕ)
         → AreMatchingRules rules path places
@@ -28,10 +28,9 @@ pub fn what_matching_rules_decide()
     which_rules_match();
 }
 
-/// In complain mode what enforce mode refuses is let through and logged with the same needs, and nothing else changes:
-/// what is denied is denied there too. The order of the rules changes no answer, no tag, no mask and no line, nor does
-/// a rule that is written twice. One allow rule more leaves what is allowed. One deny rule more allows nothing that
-/// wasn't.
+/// In complain mode what enforce mode refuses is allowed and logged with the same needs, and nothing else changes: what is denied is denied there
+/// too. The order of the rules changes no answer, no tag, no mask and no line, nor does a repeated rule. A further allow rule takes away nothing
+/// that is allowed. A further deny rule allows nothing that wasn't.
 pub fn what_rules_decide()
     ensures complain_mode_lets_through_and_logs { (audit : Bool) (rules : List Rule) (request : Request)
         → verdict Complaining audit rules request ≡ in_complain (verdict Enforcing audit rules request) }

@@ -1,5 +1,5 @@
-//! What rules and attachments say of a request, and how that is logged: which rules apply, what they cover, and the verdict; where a program that is started
-//! leads by the rules; which of some profiles it belongs to by its path; and answers as plain data, with the audit lines that log them.
+//! What rules and attachments say of a request, and how that is logged: which rules apply, what they cover, and the verdict; where a program that is
+//! started leads by the rules; which of some profiles attaches to its path; and answers as plain data, with the audit lines that log them.
 #![tactic(auto)]
 
 mod attachment_laws;

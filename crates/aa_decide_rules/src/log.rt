@@ -1,4 +1,4 @@
-//! The lines that log answers, as the kernel's log shows them.
+//! The lines that log answers, in the form of the kernel's log.
 
 ghost use Rattle.std.specs.Prelude.{◌≡◌, ◌++◌, IfOk, IsSome, OnErr, OnOk};
 ghost use Rattle.aa_profile_data.specs.Access.{letters_of};
@@ -17,11 +17,11 @@ use aa_profile_data::{Perms, Request, capability_name, domain_name, kind_name};
 use itoa::Buffer;
 use std::alloc::{AllocError, Global};
 
-// The most bytes of a line beside the names and paths that it tells: keys, masks, and names of tables.
+// The most bytes that a line has without the names and paths in it: keys, masks, and names of tables.
 const MOST_KEYS: usize = 128;
 
 impl Tag {
-    /// The word that lines tell, in ASCII letters.
+    /// The word for it in lines, in ASCII letters.
     pub fn word(self) -> &'static str
         ensures { result.now ≡ tag_word self }
     {
@@ -44,7 +44,7 @@ fn operation(request: &Request<'_>) -> &'static str
     }
 }
 
-// The key of the mask that is told.
+// The key of the mask in a line with this tag.
 fn mask_key(tag: Tag) -> &'static str
     ensures { result.now ≡ mask_key tag }
 {
@@ -54,7 +54,7 @@ fn mask_key(tag: Tag) -> &'static str
     }
 }
 
-// Puts a key and a name between quotes behind a line.
+// Appends a key and a name in quotes to a line.
 fn push_name(line: &mut Vec<u8>, key: &str, name: &str) -> Result<(), AllocError>
     ensures { OnOk result (line.new.items ≡ line.old.items ++ key.now ++ quoted name.now) }
 {
@@ -62,7 +62,7 @@ fn push_name(line: &mut Vec<u8>, key: &str, name: &str) -> Result<(), AllocError
     push_quoted(line, name.as_bytes())
 }
 
-// Puts a key and a name of a table behind a line; a number without a row has none.
+// Appends a key and a name of a table to a line; the name is empty where the number has none.
 fn push_table_name(line: &mut Vec<u8>, key: &str, name: Option<&str>) -> Result<(), AllocError>
     ensures { OnOk result (line.new.items ≡ line.old.items ++ key.now ++ quoted (name_or_none (option_map (λ name. name.now) name.entry))) }
 {
@@ -72,7 +72,7 @@ fn push_table_name(line: &mut Vec<u8>, key: &str, name: Option<&str>) -> Result<
     }
 }
 
-// Puts a key and a text as it is written behind a line.
+// Appends a key and a text, as it is printed, to a line.
 fn push_written(line: &mut Vec<u8>, key: &str, text: &[u8]) -> Result<(), AllocError>
     ensures { OnOk result (line.new.items ≡ line.old.items ++ key.now ++ written_text text.now) }
 {
@@ -80,7 +80,7 @@ fn push_written(line: &mut Vec<u8>, key: &str, text: &[u8]) -> Result<(), AllocE
     push_text(line, text)
 }
 
-// Puts a key and the letters of a mask between quotes behind a line.
+// Appends a key and the letters of a mask in quotes to a line.
 fn push_mask(line: &mut Vec<u8>, key: &str, mask: Perms) -> Result<(), AllocError>
     ensures { OnOk result (line.new.items ≡ line.old.items ++ key.now ++ quoted (letters_of mask.0)) }
 {
@@ -91,7 +91,7 @@ fn push_mask(line: &mut Vec<u8>, key: &str, mask: Perms) -> Result<(), AllocErro
     Ok(())
 }
 
-// Puts the file that was asked for behind a line, with the letters that were needed and those that are told.
+// Appends the file that was asked for to a line, with the letters that were needed and those of the mask.
 fn push_file(
     line: &mut Vec<u8>,
     path: &[u8],
@@ -106,7 +106,7 @@ fn push_file(
     push_mask(line, mask_key(tag), mask)
 }
 
-// Puts a key and a number in decimal behind a line.
+// Appends a key and a number in decimal to a line.
 fn push_number(line: &mut Vec<u8>, key: &str, number: u8) -> Result<(), AllocError>
     ensures { OnOk result (line.new.items ≡ line.old.items ++ key.now ++ decimal number) }
 {
@@ -116,7 +116,7 @@ fn push_number(line: &mut Vec<u8>, key: &str, number: u8) -> Result<(), AllocErr
     Ok(())
 }
 
-// Puts the capability that was asked for behind a line.
+// Appends the capability that was asked for to a line.
 fn push_capability(line: &mut Vec<u8>, number: u8) -> Result<(), AllocError>
     ensures { OnOk result (line.new.items ≡ line.old.items ++ capability_subject number) }
 {
@@ -124,7 +124,7 @@ fn push_capability(line: &mut Vec<u8>, number: u8) -> Result<(), AllocError>
     push_table_name(line, " capname=", capability_name(number))
 }
 
-// Puts the sockets that were asked for behind a line.
+// Appends the sockets that were asked for to a line.
 fn push_sockets(line: &mut Vec<u8>, domain: u8, kind: u8) -> Result<(), AllocError>
     ensures { OnOk result (line.new.items ≡ line.old.items ++ socket_subject domain kind) }
 {
@@ -132,7 +132,7 @@ fn push_sockets(line: &mut Vec<u8>, domain: u8, kind: u8) -> Result<(), AllocErr
     push_table_name(line, " sock_type=", kind_name(kind))
 }
 
-// Puts what was asked for behind a line.
+// Appends what was asked for to a line.
 fn push_subject(
     line: &mut Vec<u8>,
     tag: Tag,
@@ -148,7 +148,7 @@ fn push_subject(
     }
 }
 
-// Puts the operation and who asked behind a line.
+// Appends the tag, the operation and the name of the asker to a line.
 fn push_beginning(
     line: &mut Vec<u8>,
     tag: Tag,
@@ -162,7 +162,7 @@ fn push_beginning(
     push_written(line, " profile=", name)
 }
 
-// How many bytes a line takes at most, by the name of who asked and what was asked for.
+// How many bytes a line takes at most, by the name of the asker and what was asked for.
 fn most_bytes(name: &[u8], request: &Request<'_>) -> usize {
     let path = match request {
         Request::File { path, .. } => written_size(path),
@@ -173,12 +173,12 @@ fn most_bytes(name: &[u8], request: &Request<'_>) -> usize {
         .saturating_add(MOST_KEYS)
 }
 
-/// The line that logs a verdict, with its line feed: who asked, by full name, and for what (docs/commands.md, "Audit lines"). It is empty where
-/// the verdict isn't logged, and then takes no memory. A number of no table has no name in it.
+/// The audit line of a verdict, with its line feed: who asked, by full name, and for what (docs/commands.md, "Audit lines"). It is empty where the
+/// verdict isn't logged, and then takes no memory. A number that isn't in its table has an empty name.
 ///
 /// # Errors
 ///
-/// Where memory runs out for a verdict with a tag; for one without there is no error.
+/// Where memory runs out for a verdict with a tag; there is no error for one without.
 pub fn log_line(
     alloc: Global,
     name: &[u8],
@@ -198,12 +198,12 @@ pub fn log_line(
     Ok(line)
 }
 
-/// The line that logs a verdict on the start of the program of a path, with its line feed: who asked, by full name, and for which program
+/// The audit line of a verdict on the start of the program of a path, with its line feed: who asked, by full name, and for which program
 /// (docs/commands.md, "Audit lines"). It is empty where the verdict isn't logged, and then takes no memory.
 ///
 /// # Errors
 ///
-/// Where memory runs out for a verdict with a tag; for one without there is no error.
+/// Where memory runs out for a verdict with a tag; there is no error for one without.
 pub fn exec_line(
     alloc: Global,
     name: &[u8],

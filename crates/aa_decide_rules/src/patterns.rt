@@ -1,4 +1,4 @@
-//! How well patterns of attachments fit a path.
+//! Ranks of attachment patterns on a path.
 
 ghost use Rattle.std.specs.Prelude.{◌≡◌, ℕ, List};
 ghost use Rattle.aa_decide_rules.specs.Ranks.{best_rank, greater, rank};
@@ -41,8 +41,8 @@ fn best_among(patterns: &[Pattern], places: &[usize]) -> u128
 }
 
 /// The rank of the best of some patterns on a path, 0 where none matches (docs/policy.md, "Exec and attachment"): a pattern that matches ranks by
-/// the length of its literal beginning, in bytes, and one that is exact above all others. `places` are the places of those that match the
-/// path; it goes over these alone, and takes no memory.
+/// the length of its literal beginning, in bytes, and an exact one higher than all others. `places` are the places of those that match the path;
+/// only these are gone over. It takes no memory.
 pub fn best_rank(patterns: &[Pattern], places: &[usize]) -> u128
     ensures { (path : List ℕ) → AreMatching patterns.now path places.now → result ≡ best_rank path patterns.now }
 {
@@ -60,7 +60,8 @@ pub fn rank(path: &[u8], pattern: &Pattern) -> u128
     }
 }
 
-/// The same as [`best_rank`] where it isn't known which patterns match: each is tried by itself. It takes no memory.
+/// The rank of the best of some patterns on a path, as [`best_rank`], where it isn't known which patterns match: each is matched by itself. It takes
+/// no memory.
 pub fn rank_of_best(path: &[u8], patterns: &[Pattern]) -> u128
     ensures { result ≡ best_rank path.now patterns.now }
 {

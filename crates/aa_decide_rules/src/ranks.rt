@@ -1,4 +1,4 @@
-//! The one of some ranks that no other reaches.
+//! The greatest of some ranks, if no other equals it.
 
 ghost use Rattle.std.specs.Prelude.{◌≡◌, ◌==◌};
 ghost use Rattle.std.specs.List.{list_any};
@@ -26,7 +26,7 @@ fn has_rank(rank: u128, ranks: &[u128]) -> bool
     ranks.iter().any(|other| *other == rank)
 }
 
-// The place of a rank that stands among some once.
+// The index of a rank that occurs once in a list.
 fn place_of_only(rank: u128, ranks: &[u128]) -> Option<usize>
     ensures { result ≡ place_of_only rank ranks.now }
 {
@@ -46,8 +46,8 @@ fn place_of_only(rank: u128, ranks: &[u128]) -> Option<usize>
     None
 }
 
-/// The place of the rank that no other of some ranks reaches; none where two share the greatest, and where no rank is above 0, which is the rank of
-/// what doesn't fit. It takes no memory.
+/// The index of the rank that is greater than all others; `None` where two share the greatest, and where no rank is greater than 0, which is the
+/// rank of what doesn't match. It takes no memory; `O(n)` in the number of ranks.
 pub fn standing_out(ranks: &[u128]) -> Option<usize>
     ensures { result ≡ standing_out ranks.now }
 {

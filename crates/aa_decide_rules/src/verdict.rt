@@ -10,16 +10,16 @@ use aa_profile_data::Perms;
 pub enum Answer {
     /// The rules allow each need, and deny none.
     Allow,
-    /// A rule denies some need, in whichever mode.
+    /// A rule denies some need, in any mode.
     Deny,
     /// Some need is neither allowed nor denied, in enforce mode.
     Refuse,
-    /// The same in complain mode, where it is let through.
+    /// Some need is neither allowed nor denied, in complain mode, where it is allowed.
     Complain,
 }
 
 impl Answer {
-    /// The word that replies tell, in ASCII letters.
+    /// The word for it in replies, in ASCII letters.
     pub fn word(self) -> &'static str
         ensures { result.now ≡ answer_word self }
     {
@@ -32,14 +32,14 @@ impl Answer {
     }
 }
 
-/// What the line begins with that logs an answer.
+/// The word with which the audit line of an answer begins.
 #[derive(Clone, Copy, Debug, PartialEq, Eq)]
 pub enum Tag {
-    /// What was asked for wasn't let through.
+    /// The request was denied or refused.
     Denied,
-    /// It was let through in complain mode alone.
+    /// The request was let through in complain mode alone.
     Allowed,
-    /// It was allowed by rules that are audited.
+    /// The request was allowed by rules that are audited.
     Audit,
 }
 
@@ -48,8 +48,8 @@ pub enum Tag {
 pub struct Verdict {
     /// The answer.
     pub answer: Answer,
-    /// What the line begins with that logs it; none where it isn't logged.
+    /// The word with which its audit line begins; `None` where it isn't logged.
     pub tag: Option<Tag>,
-    /// The letters that the line tells; none of a request that isn't for a file.
+    /// The letters in the audit line; none for a request that isn't for a file.
     pub mask: Perms,
 }

@@ -1,4 +1,4 @@
--- Policy sets that are alike: who has a full name is confined alike in both, and attached to the same patterns.
+-- Policy sets that are alike: what has a full name is confined alike in both, and attaches by the same patterns.
 use Rattle.std.specs.Prelude.{◌≡◌, ℕ, true, List, Option, None, Some}
 use Rattle.std.specs.List.{All, Contains}
 use Rattle.aa_decide.specs.Exec.{Asker, Base, ExecAnswer, Nowhere, Null, OnProfile, OnUnconfined, Stacked, Started, Unconfined, Under, named_asker}
@@ -17,19 +17,19 @@ use Rattle.aa_profile_data.specs.Profile.{are_distinct_children}
 use Rattle.aa_profile_data.specs.SameRules.{HaveSameRules}
 use Rattle.aa_profile_data.specs.declared.profile.Mode.{Mode}
 
--- the mode in which a profile in a state confines, or its child or hat at a place; none where it is disabled
+-- the mode in which a profile in a state confines, or its child or hat at an index; none where it is disabled
 abbrev pub mode_in : State → Option ℕ → Option Mode
 mode_in Disabled child = None
 mode_in (Modes modes) child = Some (mode_at modes child)
 
--- Two are confined alike: in one mode or both by nothing, both audited or neither, and by the same rules; and they are attached to the same patterns.
+-- Two are confined alike: in one mode or both by nothing, both audited or neither, and by the same rules; and they attach by the same patterns.
 pub record AreConfinedAlike (one other : Asker) : Type 0 where
   pub mode : mode_in one.entry.state one.child ≡ mode_in other.entry.state other.child
   pub audit : audits one.entry.profile one.child ≡ audits other.entry.profile other.child
   pub attachments : HaveSameTexts (attachments_at one.entry.profile one.child) (attachments_at other.entry.profile other.child)
   pub rules : HaveSameRules (rules_at one.entry.profile one.child) (rules_at other.entry.profile other.child)
 
--- two are there, and confined alike, or neither is there
+-- either both exist, and are confined alike, or neither exists
 abbrev pub AreThereAlike : Option Asker → Option Asker → Type 0
 AreThereAlike None None = Unit {0}
 AreThereAlike (Some one) (Some other) = AreConfinedAlike one other
@@ -41,7 +41,7 @@ abbrev pub HaveNamesApart : List Loaded → Type 0
 HaveNamesApart entries =
     HaveDistinctNames entries × ((entry : Loaded) → Contains entries entry → are_distinct_children entry.profile.children ≡ true)
 
--- Two policy sets are alike: by each full name both have a profile, child or hat, and these are confined alike, or neither has one.
+-- Two policy sets are alike: for each full name either both have a profile, child or hat, and these are confined alike, or neither has one.
 pub record AreAlikePolicies (entries others : List Loaded) : Type 0 where
   pub names : HaveNamesApart entries
   pub other_names : HaveNamesApart others
@@ -59,14 +59,14 @@ pub record HaveOneName (entries others : List Loaded) (one other : Asker) : Type
   pub here : named_asker entries name ≡ Some one
   pub there : named_asker others name ≡ Some other
 
--- both ask, by the same full name, or no one in particular does
+-- both askers have the same full name, or both are no one in particular
 abbrev pub AskAlike : List Loaded → List Loaded → Option Asker → Option Asker → Type 0
 AskAlike entries others None None = Unit {0}
 AskAlike entries others (Some one) (Some other) = HaveOneName entries others one other
 AskAlike entries others None (Some other) = ⊥
 AskAlike entries others (Some one) None = ⊥
 
--- two stacks are on those that have one full name, or both on no profile
+-- two bases of stacks have the same full name, or both are no profile
 abbrev pub AreBasesAlike : List Loaded → List Loaded → Base → Base → Type 0
 AreBasesAlike entries others (OnProfile entry child) (OnProfile other place) =
     HaveOneName entries others (record { entry = entry; child = child }) (record { entry = other; child = place })
@@ -74,15 +74,15 @@ AreBasesAlike entries others OnUnconfined OnUnconfined = Unit {0}
 AreBasesAlike entries others (OnProfile entry child) OnUnconfined = ⊥
 AreBasesAlike entries others OnUnconfined (OnProfile other place) = ⊥
 
--- or neither is on anything
+-- two bases are alike, or there is neither
 abbrev pub StandAlike : List Loaded → List Loaded → Option Base → Option Base → Type 0
 StandAlike entries others None None = Unit {0}
 StandAlike entries others (Some base) (Some other) = AreBasesAlike entries others base other
 StandAlike entries others None (Some other) = ⊥
 StandAlike entries others (Some base) None = ⊥
 
--- a program runs under those that have one full name, or under no profile in both, or under stacks that stand alike and whose other members have the same
--- full names, or isn't started in either
+-- a program runs under profiles of the same full name, or under no profile in both, or under stacks whose bases are alike and whose other members
+-- have the same full names, or isn't started in either
 abbrev pub RunAlike : List Loaded → List Loaded → Started → Started → Type 0
 RunAlike entries others (Under entry child) (Under other place) =
     HaveOneName entries others (record { entry = entry; child = child }) (record { entry = other; child = place })
@@ -92,8 +92,8 @@ RunAlike entries others Null Null = Unit {0}
 RunAlike entries others Nowhere Nowhere = Unit {0}
 RunAlike entries others _ _ = ⊥
 
--- two answers to the start of a program are the same: the verdict with its line's tag, under whom it runs by full name, and whether its environment
--- is scrubbed
+-- two answers to the start of a program are equal: the verdict with the tag of its audit line, under which profile it runs by full name, and whether
+-- its environment is scrubbed
 pub record StartAlike (entries others : List Loaded) (one other : ExecAnswer) : Type 0 where
   pub verdict : one.verdict ≡ other.verdict
   pub to : RunAlike entries others one.to other.to

@@ -1,4 +1,4 @@
--- Profiles and children that a path may be attached to, and how well each fits it (docs/policy.md, "Attachment").
+-- Profiles and children that may attach to a path, and how well each fits it (docs/policy.md, "Attachment").
 use Rattle.std.specs.Prelude.{ℕ, ◌+◌, ◌==◌, if◌then◌else◌, find, List, [], ◌∷◌, map, Option, None, Some}
 use Rattle.aa_decide_rules.specs.Ranks.{best_rank, rank}
 use Rattle.aa_decide_ready.specs.Entries.{Loaded, is_in_force}
@@ -6,7 +6,7 @@ use Rattle.aa_decide_ready.specs.Visits.{attachments_at}
 use Rattle.aa_profile_data.specs.declared.profile.Child.{Child}
 use Rattle.aa_explain.specs.declared.candidates.Candidate.{Candidate as CodeCandidate}
 
--- a loaded profile, or its child or hat at a place
+-- a loaded profile, or its child or hat at an index
 pub record Candidate : Type 0 where
   pub entry : Loaded
   pub child : Option ℕ
@@ -22,7 +22,7 @@ seen_candidates candidates = map seen_candidate candidates
 abbrev pub profile_candidates : List Loaded → List Candidate
 profile_candidates entries = map (λ entry. record { entry = entry; child = None }) entries
 
--- each child and hat of a profile, where the first stands at this place
+-- each child and hat of a profile, where the first has this index
 abbrev pub children_from : Loaded → ℕ → List Child → List Candidate
 children_from entry place [] = []
 children_from entry place (child ∷ children) = record { entry = entry; child = Some place } ∷ children_from entry (place + 1) children
@@ -30,14 +30,14 @@ children_from entry place (child ∷ children) = record { entry = entry; child =
 abbrev pub child_candidates : Loaded → List Candidate
 child_candidates entry = children_from entry 0 entry.profile.children
 
--- the patterns by which a path may be attached to it: a profile that is disabled has none
+-- the patterns by which a candidate may attach to a path: a disabled profile has none
 abbrev pub patterns_of : Candidate → List (List ℕ)
 patterns_of candidate = elim candidate.child [
   | None ↦ if is_in_force candidate.entry.state then candidate.entry.profile.attachments else []
   | Some place ↦ attachments_at candidate.entry.profile (Some place)
 ]
 
--- its rank on a path
+-- the candidate's rank on a path
 abbrev pub rank_of : List ℕ → Candidate → ℕ
 rank_of path candidate = best_rank path (patterns_of candidate)
 
@@ -45,6 +45,6 @@ rank_of path candidate = best_rank path (patterns_of candidate)
 abbrev pub with_rank : ℕ → List ℕ → List (List ℕ) → Option (List ℕ)
 with_rank best path patterns = find (λ pattern. rank path pattern == best) patterns
 
--- the first of those that fit the path best, if one matches it
+-- the first of the patterns that fit the path best, if one matches it
 abbrev pub best_pattern : List ℕ → List (List ℕ) → Option (List ℕ)
 best_pattern path patterns = if best_rank path patterns == 0 then None else with_rank (best_rank path patterns) path patterns

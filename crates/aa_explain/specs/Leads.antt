@@ -1,4 +1,4 @@
--- Where the rules of who asks lead the program of a path (docs/policy.md, "Exec and attachment").
+-- Where the rules of the asker lead the program of a path (docs/policy.md, "Exec and attachment").
 use Rattle.std.specs.Prelude.{ℕ, Bool, List, Option, None, option_and_then}
 use Rattle.std.specs.Option.{option_map}
 use Rattle.aa_decide.specs.Exec.{Asker, Started, led, led_by_word}
@@ -12,13 +12,13 @@ use Rattle.aa_profile_data.specs.declared.profile.Transition.{Transition}
 use Rattle.aa_explain_rules.specs.Leading.{chosen_transition}
 use Rattle.aa_explain.specs.declared.leads.Lead.{Lead as CodeLead}
 
--- a transition, where its word leads, if that is there, and where its fallback leads, if it has one and that is there
+-- a transition, where its word leads, if that exists, and where its fallback leads, if it has one and that exists
 pub record Lead : Type 0 where
   pub transition : Transition
   pub to : Option Started
   pub fallback : Option Started
 
--- where a transition leads who asks
+-- where a transition leads the asker
 abbrev pub lead_by : List ℕ → List Loaded → Asker → Transition → Lead
 lead_by path entries asker transition = record {
   transition = transition;
@@ -26,14 +26,14 @@ lead_by path entries asker transition = record {
   fallback = option_and_then (led path transition.target entries asker) (row transition.word).fallback;
 }
 
--- by what confines who asks: where the transition leads that the rules say together; where nothing confines it, or a name alone, no rule leads
+-- by what confines the asker: where the transition leads that the rules give together; where nothing confines it, or a name alone, no rule leads
 abbrev pub confined_lead : Bool → List ℕ → List Loaded → Asker → Confinement → Option Lead
 confined_lead owned path entries asker Unconfined = None
 confined_lead owned path entries asker ByName = None
 confined_lead owned path entries asker (By section mediation) =
     option_map (lead_by path entries asker) (chosen_transition (choice section.audit owned path section.rules))
 
--- where the rules of who asks lead, if they lead somewhere
+-- where the rules of the asker lead, if they lead somewhere
 abbrev pub lead_of : Bool → List ℕ → List Loaded → Asker → Option Lead
 lead_of owned path entries asker = confined_lead owned path entries asker (in_state asker.entry.profile asker.entry.state asker.child)
 
@@ -41,7 +41,7 @@ lead_of owned path entries asker = confined_lead owned path entries asker (in_st
 abbrev pub seen_destination : List (Option Loaded) → Option ExecTo → Option Started
 seen_destination slots found = option_and_then (seen_to slots) found
 
--- what the code found, if something, is in a filled slot
+-- what the code found, if anything, is in a filled slot
 abbrev pub IsThere : List (Option Loaded) → Option ExecTo → Type 0
 IsThere slots found = IsDestination slots found (seen_destination slots found)
 
@@ -53,6 +53,6 @@ seen_lead slots found = record {
   fallback = seen_destination slots found.fallback;
 }
 
--- what a lead of the code tells is in filled slots
+-- the destinations that a lead of the code holds are in filled slots
 abbrev pub LeadsThere : List (Option Loaded) → CodeLead → Type 0
 LeadsThere slots found = IsThere slots found.to × IsThere slots found.fallback

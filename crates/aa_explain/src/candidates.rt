@@ -1,4 +1,4 @@
-//! Profiles and children that a path may be attached to.
+//! Profiles and children that may attach to a path.
 
 ghost use Rattle.std.specs.Prelude.{◌≡◌, IfOk, None, map};
 ghost use Rattle.aa_decide_ready.specs.Slots.{filled};
@@ -11,12 +11,12 @@ use aa_glob_pattern::Pattern;
 use aa_profile_data::Child;
 use std::alloc::{AllocError, Global};
 
-/// A profile or a child that a path may be attached to.
+/// A profile or a child that may attach to a path.
 #[derive(Clone, Copy)]
 pub struct Candidate<'a> {
     /// The loaded profile.
     pub entry: &'a Entry,
-    /// The place of the child or hat; none where that is the profile itself.
+    /// The index of the child or hat; `None` where that is the profile itself.
     pub child: Option<usize>,
 }
 
@@ -75,7 +75,7 @@ pub fn child_candidates(alloc: Global, entry: &Entry) -> Result<Vec<Candidate<'_
     children_of(alloc, entry, entry.profile().children.as_slice())
 }
 
-// The patterns by which a path may be attached to a profile: one that is disabled has none.
+// The patterns by which a profile may attach to a path: one that is disabled has none.
 fn own_patterns(entry: &Entry) -> &[Pattern]
     ensures { result.now ≡ patterns_of (record { entry = entry.now; child = None }) }
 {
@@ -86,7 +86,7 @@ fn own_patterns(entry: &Entry) -> &[Pattern]
     }
 }
 
-/// The patterns by which a path may be attached to a candidate: a profile that is disabled has none.
+/// The patterns by which a candidate may attach to a path: a profile that is disabled has none. It takes no memory.
 pub fn patterns_of<'a>(candidate: Candidate<'a>) -> &'a [Pattern]
     ensures { result.now ≡ patterns_of (seen_candidate candidate.entry) }
 {
@@ -96,7 +96,8 @@ pub fn patterns_of<'a>(candidate: Candidate<'a>) -> &'a [Pattern]
     }
 }
 
-/// The rank of a candidate on a path, 0 where none of its patterns matches (docs/policy.md, "Exec and attachment"). It takes no memory.
+/// The rank of a candidate on a path, 0 where none of its patterns matches (docs/policy.md, "Exec and attachment"). It takes no memory; each pattern
+/// is matched by itself.
 pub fn rank_of(path: &[u8], candidate: Candidate<'_>) -> u128
     ensures { result ≡ rank_of path.now (seen_candidate candidate.entry) }
 {

@@ -1,5 +1,4 @@
-//! What holds of the start of programs with a rule more, and of what a program's path is attached to, as laws over the definitions that the calls are
-//! proved to follow.
+//! Properties of the start of programs with one more rule, and of attachment, as laws over the definitions that the calls are proved to follow.
 
 ghost use Rattle.std.specs.Prelude.{◌++◌, ◌↔◌, ◌∷◌, ◌≡◌, ◌≢◌, [], Bool, List, Some, map, option_and_then, slice_get, true, ℕ};
 ghost use Rattle.aa_profile_data.specs.Access.{EXEC, has};
@@ -22,9 +21,9 @@ ghost use Rattle.aa_explain_rules.specs.Narrower.{but_letter};
 
 use aa_explain_rules::where_a_missing_rule_leads;
 
-/// Where a request lacks `x`, the rule that it lacks lets the program of its path be started: who asks by a profile, or by a child or hat of it, whose
-/// rules have it behind the others is let, and where its rules are asked it runs the program under what it runs under itself. With that rule without its
-/// exec word it isn't let then.
+/// Where a request lacks `x`, the rule that it lacks allows the program of its path to be started: an asker by a profile, child or hat whose rules
+/// are followed by that rule is allowed, and where its rules are looked at it runs the program under itself. With that rule without its exec word it
+/// isn't allowed then.
 pub fn what_starts_with_a_missing_rule()
     ensures it_is_let { (letters : ℕ) (owned : Bool) (path : List ℕ) (rules : List Rule) (rule : Rule) (entries : List Loaded) (who : Asker)
         → missing_rule (ForFile letters owned path) rules ≡ Some rule
@@ -48,7 +47,7 @@ pub fn what_starts_with_a_missing_rule()
     where_a_missing_rule_leads();
 }
 
-/// The candidate that is told as attached is the one whose rank stands out. Among all profiles that is the profile to which a path is attached, and
+/// The candidate that is reported as attached is the one whose rank stands out. Among all profiles it is the profile that attaches to a path, and
 /// among the children and hats of one it is the child.
 pub fn which_is_attached()
     ensures told { (ranks : List ℕ) (place rank : ℕ) → (standing_of ranks place rank ≡ Attached) ↔ (standing_out ranks ≡ Some place) }

@@ -1,4 +1,4 @@
-//! Where the rules of who asks lead a program that is started.
+//! Where the rules of an asker lead a program that is started.
 
 ghost use Rattle.std.specs.Prelude.{◌≡◌, IfOk, IfSome, option_and_then};
 ghost use Rattle.std.specs.Option.{option_map};
@@ -17,18 +17,18 @@ use aa_decide::{
 use aa_profile_data::{Destination, Transition};
 use std::alloc::{AllocError, Global};
 
-/// Where the rules of who asks lead a program that is started.
+/// Where the rules of an asker lead a program that is started.
 #[derive(Clone, Copy)]
 pub struct Lead<'a> {
-    /// The transition that the rules say together.
+    /// The transition on which the rules decide together.
     pub transition: &'a Transition,
-    /// Where its word leads; none where that isn't there.
+    /// Where its word leads; `None` where that doesn't exist.
     pub to: Option<ExecTo<'a>>,
-    /// Where its fallback leads, which is gone to where its word leads nowhere; none where it has none, or where that isn't there either.
+    /// Where its fallback leads, which is used where its word leads nowhere; `None` where it has no fallback, or where that doesn't exist either.
     pub fallback: Option<ExecTo<'a>>,
 }
 
-// Where a choice leads, if it leads somewhere.
+// The transition of a choice, if it leads somewhere.
 fn chosen_transition<'a>(choice: ExecChoice<'a>) -> Option<&'a Transition>
     ensures { option_map (λ transition. transition.now) result ≡ chosen_transition (seen_choice choice.entry) }
 {
@@ -39,7 +39,7 @@ fn chosen_transition<'a>(choice: ExecChoice<'a>) -> Option<&'a Transition>
     }
 }
 
-// Where the word of a transition leads who asks, if that is there.
+// Where the word of a transition leads for an asker, if that exists.
 fn word_of<'a>(
     alloc: Global,
     slots: &IndexedSlots<'_>,
@@ -55,7 +55,7 @@ fn word_of<'a>(
     led_by_word(alloc, slots, asker, path, transition)
 }
 
-// Where a destination leads who asks, if that is there.
+// Where a destination leads for an asker, if that exists.
 fn destination_of<'a>(
     alloc: Global,
     slots: &IndexedSlots<'_>,
@@ -92,7 +92,7 @@ fn fallback_of<'a>(
     }
 }
 
-// Where a transition leads who asks.
+// Where a transition leads for an asker.
 fn lead_by<'a>(
     alloc: Global,
     slots: &IndexedSlots<'_>,
@@ -113,7 +113,7 @@ fn lead_by<'a>(
     })
 }
 
-// The same of a transition, if there is one.
+// Where a transition leads for an asker, if there is one.
 fn led_by<'a>(
     alloc: Global,
     slots: &IndexedSlots<'_>,
@@ -133,10 +133,10 @@ fn led_by<'a>(
     }
 }
 
-/// Where the rules of who asks lead the program of a path that is started (docs/policy.md, "The start of a program"): the transition that they say
-/// together, where its word leads, and where its fallback does, as `aa_decide::exec_by` goes by them. None where a deny rule with `x` applies, where no
-/// rule says where to go, and where no rule is asked: where nothing confines who asks, and in mode unconfined. `owned` says whether the task's user owns
-/// the file. What it tells is said of the filled slots in their order, and a profile that it tells is in a filled one.
+/// Where the rules of an asker lead the program of a path that is started (docs/policy.md, "The start of a program"): the transition on which they
+/// decide together, where its word leads, and where its fallback does, as `aa_decide::exec_by` uses them. `None` where a deny rule with `x` applies,
+/// where no rule says where to go, and where no rule is looked at: where nothing confines the asker, and in mode unconfined. `owned` says whether
+/// the task's user owns the file. The contract speaks of the filled slots in their order, and a profile in the result is in a filled one.
 ///
 /// # Errors
 ///

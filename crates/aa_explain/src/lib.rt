@@ -1,5 +1,8 @@
-//! Why a request is answered as it is: the rules behind an answer, the one that is missing, those that decide where a program runs, where these lead, and
-//! what its path may be attached to. What is found are values; no text is made of them here.
+//! Why a request is answered as it is: the rules that decide it, the rule that it lacks, the rules that decide under which profile a program runs,
+//! where these lead, and which profiles may attach to its path. Results are values; no text is made of them here.
+//!
+//! It passes on calls of `aa_explain_rules`; questions about all paths are asked of `aa_explain_paths`, `aa_explain_changes`, `aa_explain_reach` and
+//! `aa_explain_redundant`.
 #![tactic(auto)]
 
 mod alike;

@@ -1,4 +1,4 @@
-//! The pattern of an attachment that fits a path best.
+//! The attachment pattern that fits a path best.
 
 ghost use Rattle.std.specs.Prelude.{◌≡◌};
 ghost use Rattle.std.specs.Option.{option_map};
@@ -21,7 +21,7 @@ fn with_rank<'a>(best: u128, path: &[u8], patterns: &'a [Pattern]) -> Option<&'a
     None
 }
 
-/// The first of some patterns that fit a path best, if one matches it. Each is tried by itself; it takes no memory.
+/// The first of some patterns that fit a path best, if one matches it. Each is matched by itself; it takes no memory.
 pub fn best_pattern<'a>(path: &[u8], patterns: &'a [Pattern]) -> Option<&'a Pattern>
     ensures { option_map (λ pattern. pattern.now) result ≡ best_pattern path.now patterns.now }
 {

@@ -1,22 +1,22 @@
-//! How those come out that a path may be attached to.
+//! How the candidates compare that may attach to a path.
 
 ghost use Rattle.std.specs.Prelude.{◌≡◌};
 ghost use Rattle.aa_explain.specs.Standings.{is_the_one, standing_of};
 
 use aa_decide_rules::{greatest, standing_out};
 
-/// How a candidate comes out among others on a path.
+/// How a candidate compares with others on a path.
 #[derive(Clone, Copy, Debug, PartialEq, Eq)]
 pub enum Standing {
-    /// The path is attached to it.
+    /// The candidate attaches to the path.
     Attached,
-    /// It fits the path best, as another does: the path is attached to none of them.
+    /// The candidate fits the path best, but so does another: none of them attaches to the path.
     Tied,
-    /// Another fits the path better.
+    /// Another candidate fits the path better.
     Lost,
 }
 
-// Whether a place is the one, if there is one.
+// Whether an index is this one, if there is one.
 fn is_the_one(place: usize, one: Option<usize>) -> bool
     ensures { result ≡ is_the_one place one }
 {
@@ -26,7 +26,7 @@ fn is_the_one(place: usize, one: Option<usize>) -> bool
     }
 }
 
-/// How the candidate of a rank at a place comes out among those of some ranks, each of which is that of one on the same path. It takes no memory.
+/// How the candidate at an index, with this rank, compares with the candidates of these ranks, all on one path. It takes no memory.
 pub fn standing_of(ranks: &[u128], place: usize, rank: u128) -> Standing
     ensures { result ≡ standing_of ranks.now place rank }
 {

@@ -42,11 +42,11 @@ same_tag _ _ = false
 abbrev pub same_log : Verdict → Verdict → Bool
 same_log one other = same_tag one.tag other.tag && (one.mask.0 == other.mask.0)
 
--- no change, where two answers that are the same are logged alike, or it doesn't matter how they are
+-- no change, where two answers that are equal are logged alike, or how they are logged doesn't matter
 abbrev pub same_or : Bool → Verdict → Verdict → Change
 same_or quiet one other = if quiet || same_log one other then Same else Otherwise
 
--- how answers change into others, by what they are
+-- how one answer changes into another, by what each answers
 abbrev pub change_by : Bool → Verdict → Verdict → Answer → Answer → Change
 change_by quiet one other Allow Allow = same_or quiet one other
 change_by quiet one other Allow _ = Lost
@@ -57,11 +57,11 @@ change_by quiet one other before now = if same_answer before now then same_or qu
 abbrev pub change_between : Bool → Verdict → Verdict → Change
 change_between quiet one other = change_by quiet one other one.answer other.answer
 
--- what both sides say of letters of a file, owned by the task's user or by another
+-- the answers of both sides to letters of a file, owned by the task's user or by another
 abbrev pub answers_at : Sides → List ℕ → Bool → ℕ → Answers
 answers_at sides path owned letters = record { old = side_verdict sides.old path owned letters; new = side_verdict sides.new path owned letters }
 
--- how the answer to them changes
+-- how the answer to letters of a file changes
 abbrev pub change_of : Sides → List ℕ → Bool → ℕ → Change
 change_of sides path owned letters = change_between sides.quiet (side_verdict sides.old path owned letters) (side_verdict sides.new path owned letters)
 

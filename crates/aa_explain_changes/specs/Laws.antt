@@ -1,4 +1,4 @@
--- Which rules can change an answer, and what follows where nothing is told.
+-- Which rules can change an answer, and what follows where nothing is reported.
 use Rattle.std.specs.Prelude.{◌≡◌, ◌⊎◌, ℕ, ◌<◌, Bool, false, true, List, map, Contains, None}
 use Rattle.std.specs.List.{All}
 use Rattle.aa_decide_rules.specs.declared.verdict.Answer.TheVariants.{Allow}
@@ -22,18 +22,18 @@ abbrev pub SomeCovers : List LoneRule → List ℕ → Bool → ℕ → Type 0
 SomeCovers rules path owned letters =
     (lone : LoneRule) × Contains rules lone × (covers_letter lone.rule (is_matched_by lone.rule path) owned letters ≡ true)
 
--- where an answer changes, a rule covers what is asked that one side alone has
+-- where an answer changes, a rule that only one side has covers some of the letters asked for
 abbrev pub ChangedRulesDecide : Type 0
 ChangedRulesDecide =
     (sides : Sides) (path : List ℕ) (owned : Bool) (letters : ℕ)
     → is_change (change_of sides path owned letters) ≡ true
     → SomeCovers (old_lone sides) path owned letters ⊎ SomeCovers (new_lone sides) path owned letters
 
--- nothing is told of any of some rules
+-- nothing is reported on any of some rules
 abbrev pub NothingIsTold : List RuleChange → Type 0
 NothingIsTold changes = All (λ (change : RuleChange). change.told ≡ None) changes
 
--- where nothing is told of a rule of either side, no answer to a letter changes, of no path that the kernel may ask about
+-- where nothing is reported on a rule of either side, no answer to a letter changes, of no path that the kernel may ask about
 abbrev pub NoChangeIsHidden : Type 0
 NoChangeIsHidden =
     (sides : Sides) (changes : FileChanges) → AreFileChanges sides changes
@@ -41,14 +41,14 @@ NoChangeIsHidden =
     → (path : List ℕ) → AreBytes path → may_be_asked path ≡ true → (owned : Bool) (letter : ℕ) → Contains single_letters letter
     → change_of sides path owned letter ≡ Same
 
--- where none is told to be lost, each letter that was allowed is allowed
+-- where none is reported to be lost, each letter that was allowed is allowed
 abbrev pub NothingAllowedIsRefused : Type 0
 NothingAllowedIsRefused =
     (sides : Sides) (changes : FileChanges) → AreFileChanges sides changes → changes.lost ≡ false
     → (path : List ℕ) → AreBytes path → may_be_asked path ≡ true → (owned : Bool) (letter : ℕ) → Contains single_letters letter
     → (side_verdict sides.old path owned letter).answer ≡ Allow → (side_verdict sides.new path owned letter).answer ≡ Allow
 
--- Two sides that say the same of each letter by itself say the same of any letters, in whatever mode.
+-- Two sides that give the same verdict on each letter by itself do so on any letters, in whatever mode.
 abbrev pub LettersDecideSets : Type 0
 LettersDecideSets =
     (old new : Side) (path : List ℕ) (owned : Bool)

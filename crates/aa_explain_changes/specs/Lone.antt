@@ -1,4 +1,4 @@
--- The rules on files that one side alone has.
+-- The rules on files that only one side has.
 use Rattle.std.specs.Prelude.{ℕ, Bool, not, if◌then◌else◌, List, [], ◌∷◌, ◌++◌, map}
 use Rattle.aa_explain_diff.specs.Features.{Feature, OfAttachment, OfAudit, OfFlag, OfHat, OfMode, OfRule, lacking, rules_from}
 use Rattle.aa_profile_data.specs.SameRules.{same_flag}
@@ -32,18 +32,18 @@ files_among (OfFlag flag ∷ more) = files_among more
 files_among (OfAttachment pattern ∷ more) = files_among more
 files_among (OfRule rule number ∷ more) = file_at rule number (files_among more)
 
--- those of some rules that others lack; or all, where each of them is to count
+-- those of some rules that other rules lack; or all, where each of them is to count
 abbrev pub lone_features : Bool → List Rule → List Rule → List Feature
 lone_features all others rules = if all then rules_from 0 rules else lacking (rules_from 0 others) (rules_from 0 rules)
 
 abbrev pub lone_rules : Bool → List Rule → List Rule → List LoneRule
 lone_rules all others rules = files_among (lone_features all others rules)
 
--- each rule of either side counts, where the rules of one side alone are audited
+-- each rule of either side counts, where the rules of only one side are audited
 abbrev pub all_count : Sides → Bool
 all_count sides = not (same_flag sides.old.audit sides.new.audit)
 
--- the rules on files of the old side that the new one lacks, and the other way round
+-- the rules on files of the old side that the new one lacks, and of the new side that the old one lacks
 abbrev pub old_lone : Sides → List LoneRule
 old_lone sides = lone_rules (all_count sides) sides.new.rules sides.old.rules
 
@@ -53,6 +53,6 @@ new_lone sides = lone_rules (all_count sides) sides.old.rules sides.new.rules
 abbrev pub patterns_of : List LoneRule → List (List ℕ)
 patterns_of lone = map (λ (l : LoneRule). l.rule.pattern) lone
 
--- the patterns of both
+-- the patterns of the rules that only one side has
 abbrev pub lone_patterns : Sides → List (List ℕ)
 lone_patterns sides = patterns_of (old_lone sides) ++ patterns_of (new_lone sides)

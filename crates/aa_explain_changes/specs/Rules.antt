@@ -19,24 +19,24 @@ use Rattle.aa_explain_changes.specs.declared.rules.FileChange.{FileChange as Cod
 abbrev pub covers_letter : FileRule → Bool → Bool → ℕ → Bool
 covers_letter rule matched owned letter = matched && (not rule.owner || owned) && not (common letter (covered_by_file rule) == 0)
 
--- it covers a letter whose answer changes
+-- a rule covers a letter whose answer changes
 abbrev pub takes_part : FileRule → Bool → Bool → ℕ × Change → Bool
 takes_part rule matched owned letter = covers_letter rule matched owned letter.0 && is_change letter.1
 
--- it covers one of some letters whose answer changes
+-- a rule covers one of some letters whose answer changes
 abbrev pub changes_by : FileRule → Bool → Bool → List (ℕ × Change) → Bool
 changes_by rule matched owned letters = list_any (takes_part rule matched owned) letters
 
--- it covers a letter whose answer changes so
+-- a rule covers a letter whose answer changes in this manner
 abbrev pub takes_so : Change → FileRule → Bool → Bool → ℕ × Change → Bool
 takes_so change rule matched owned letter = covers_letter rule matched owned letter.0 && same_change change letter.1
 
--- the change that is told of letters that it covers: one isn't allowed any more, or one is now, or neither
+-- the change that is reported for the letters that a rule covers: one isn't allowed any more, or one is now, or neither
 abbrev pub change_told : FileRule → Bool → Bool → List (ℕ × Change) → Change
 change_told rule matched owned letters =
     if list_any (takes_so Lost rule matched owned) letters then Lost else if list_any (takes_so Gained rule matched owned) letters then Gained else Otherwise
 
--- those of some letters that it covers and whose answer changes so
+-- those of some letters that a rule covers and whose answer changes in this manner
 abbrev pub with_changed : Change → FileRule → Bool → Bool → ℕ → ℕ × Change → ℕ
 with_changed change rule matched owned set letter = if takes_so change rule matched owned letter then union set letter.0 else set
 
@@ -59,13 +59,13 @@ pub record IsChange (sides : Sides) (rule : FileRule) (path : List ℕ) : Type 0
   pub asked : may_be_asked path ≡ true
   pub changes : changes_at sides rule path ≡ true
 
--- none that is one is shorter
+-- none of the paths with such a change is shorter
 pub record IsShortestChange (sides : Sides) (rule : FileRule) (path : List ℕ) : Type 0 where
   pub change : IsChange sides rule path
   pub shortest : (other : List ℕ) → IsChange sides rule other → length path ≤ length other
 
--- What is told of a path: whose file it is, another's where answers change of that; how they change; the letters that the rule covers and whose answers
--- change so; and what both sides answer to these.
+-- The report on a path: whose file it is, another's where answers change of that; how they change; the letters that the rule covers and whose
+-- answers change in this manner; and the answers of both sides to these.
 pub record FileChange : Type 0 where
   pub path : List ℕ
   pub owned : Bool
@@ -88,7 +88,7 @@ told_for sides rule path owned =
 abbrev pub told_at : Sides → FileRule → List ℕ → FileChange
 told_at sides rule path = told_for sides rule path (not (changes_for sides rule path false))
 
--- What is told of a rule: a shortest path on which answers change that it takes part in; or none, where there is no such path.
+-- The report on a rule: a shortest path on which answers change that it takes part in; or none, where there is no such path.
 abbrev pub IsToldOf : Sides → FileRule → Option FileChange → Type 0
 IsToldOf sides rule None = (path : List ℕ) → IsChange sides rule path → ⊥
 IsToldOf sides rule (Some told) = IsShortestChange sides rule told.path × (told ≡ told_at sides rule told.path)

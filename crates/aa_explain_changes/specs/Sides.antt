@@ -8,12 +8,12 @@ use Rattle.aa_profile_data.specs.declared.profile.Rule.{Rule}
 use Rattle.aa_explain_changes.specs.declared.sides.Side.{Side as CodeSide}
 use Rattle.aa_explain_changes.specs.declared.sides.Sides.{Sides as CodeSides}
 
--- what a profile, a child or a hat says of files: its rules, and whether each of them is audited
+-- a profile, a child or a hat as it decides on files: its rules, and the flag that audits each of them
 pub record Side : Type 0 where
   pub audit : Bool
   pub rules : List Rule
 
--- the two sides of a change, and whether answers are the same that differ in how they are logged alone
+-- the two sides of a change, and whether answers that differ in how they are logged alone count as equal
 pub record Sides : Type 0 where
   pub old : Side
   pub new : Side
@@ -25,6 +25,6 @@ seen_side side = record { audit = side.audit; rules = side.rules.now }
 abbrev pub seen_sides : CodeSides → Sides
 seen_sides sides = record { old = seen_side sides.old; new = seen_side sides.new; quiet = sides.quiet }
 
--- What a side says of letters of a file. What isn't allowed is refused, whatever the mode: a change of the mode is one of its own.
+-- The verdict of a side on letters of a file. What isn't allowed is refused, whatever the mode: a change of the mode is a change of its own.
 abbrev pub side_verdict : Side → List ℕ → Bool → ℕ → Verdict
 side_verdict side path owned letters = verdict Enforcing side.audit side.rules (ForFile letters owned path)

@@ -1,4 +1,4 @@
-//! What a change of rules changes, of all paths.
+//! What a change of rules changes, over all paths.
 
 ghost use Rattle.std.specs.Prelude.{◌≡◌, ◌++◌, IfOk, IfSome, None, false, map, true};
 ghost use Rattle.std.specs.List.{All};
@@ -25,31 +25,31 @@ use std::alloc::{AllocError, Global};
 /// What a change of rules changes, of all paths.
 #[derive(Drop)]
 pub struct FileChanges<'a> {
-    /// The rules on files that the old side alone has, in their order, and what each of them changes.
+    /// The rules on files that only the old side has, in their order, and what each of them changes.
     pub old: Vec<RuleChange<'a>>,
-    /// Those that the new side alone has.
+    /// The rules on files that only the new side has, in their order, and what each of them changes.
     pub new: Vec<RuleChange<'a>>,
-    /// Whether some letter of some path is allowed now that wasn't.
+    /// Whether some letter of some path is allowed now that wasn't before.
     pub gained: bool,
-    /// Whether some isn't any more that was.
+    /// Whether some letter of some path isn't allowed any more that was before.
     pub lost: bool,
 }
 
-// The rules that one side alone has, of both.
+// The rules that only one side has, for both sides.
 #[derive(Drop)]
 struct Lone<'a> {
     old: Vec<LoneRule<'a>>,
     new: Vec<LoneRule<'a>>,
 }
 
-// Whether each rule counts: where the rules of one side alone are audited.
+// Whether each rule counts: where the rules of only one side are audited.
 fn all_count(sides: Sides<'_>) -> bool
     ensures { result ≡ all_count (seen_sides sides.entry) }
 {
     sides.old.audit != sides.new.audit
 }
 
-// The rules that one side alone has, of both.
+// The rules that only one side has, for both sides.
 fn lone_of<'a>(alloc: Global, sides: Sides<'a>) -> Result<Lone<'a>, AllocError>
     ensures old { IfOk result (λ lone. map seen_lone lone.old.items ≡ old_lone (seen_sides sides.entry)) }
     ensures new { IfOk result (λ lone. map seen_lone lone.new.items ≡ new_lone (seen_sides sides.entry)) }
@@ -60,7 +60,7 @@ fn lone_of<'a>(alloc: Global, sides: Sides<'a>) -> Result<Lone<'a>, AllocError>
     Ok(Lone { old, new })
 }
 
-// Their patterns.
+// The patterns of the rules that only one side has.
 fn patterns_of(alloc: Global, lone: &Lone<'_>) -> Result<Vec<Pattern>, AllocError>
     ensures { IfOk result (λ patterns. patterns.items ≡ patterns_of (map seen_lone lone.now.old.items) ++ patterns_of (map seen_lone lone.now.new.items)) }
 {
@@ -70,7 +70,7 @@ fn patterns_of(alloc: Global, lone: &Lone<'_>) -> Result<Vec<Pattern>, AllocErro
     Ok(patterns)
 }
 
-// Paths that stand for all that one of these patterns matches, by the rules of both sides; none where they are too many.
+// Paths that stand for all that one of these patterns matches, by the rules of both sides; `None` where they are too many.
 fn changing_outcomes(
     alloc: Global,
     sides: Sides<'_>,
@@ -92,7 +92,7 @@ fn changing_outcomes(
     standing_paths(alloc, both, count, wanted, &unasked, limit)
 }
 
-// What is told by these kinds.
+// The changes by these kinds of paths.
 fn told_by<'a>(
     alloc: Global,
     sides: Sides<'_>,
@@ -112,13 +112,14 @@ fn told_by<'a>(
     })
 }
 
-/// What a change of rules changes, of all paths of any bytes, as far as the kernel may ask about them (`aa_explain_paths::ask_all_paths`): by what the rules
-/// of each side say in enforce mode of each letter, of the files of the task's user and of others. Of each rule on files that one side alone has, a shortest
-/// path on which answers change that the rule takes part in, as it covers a letter whose answer changes; and whether anything is allowed now that wasn't, or
-/// isn't any more. No change of an answer is left out: on its path some rule takes part that one side alone has (`changed_rules_decide`).
+/// What a change of rules changes, over all paths of any bytes, as far as the kernel may ask about them (`aa_explain_paths::ask_all_paths`): by the
+/// answers of each side in enforce mode to each letter, of the files of the task's user and of others. For each rule on files that only one side
+/// has, the result has a shortest path on which answers change in which the rule takes part, as it covers a letter whose answer changes; and whether
+/// anything is allowed now that wasn't, or isn't any more. No change of an answer is left out: on its path some rule takes part that only one side
+/// has (`changed_rules_decide`).
 ///
-/// None where paths are too many: more than `limit` sets of states of the patterns' automaton were to be looked at. Where neither side has a rule on files
-/// alone, no automaton is made.
+/// `None` where paths are too many: more than `limit` sets of states of the patterns' automaton would have to be looked at. Where neither side has a
+/// rule on files alone, no automaton is built.
 ///
 /// # Errors
 ///

@@ -9,27 +9,27 @@ use bitflags::Flags;
 /// How the answer to a letter of a file changes.
 #[derive(Clone, Copy)]
 pub enum Change {
-    /// It doesn't.
+    /// The answer doesn't change.
     Same,
     /// The letter is allowed now.
     Gained,
     /// The letter isn't allowed any more.
     Lost,
-    /// It is allowed before and now, or neither: it is logged otherwise, or denied where it was refused, or the other way round.
+    /// The letter is allowed before and now, or neither: it is logged differently, or denied where it was refused, or the reverse.
     Otherwise,
 }
 
-/// What both sides of a change of rules answer to a request.
+/// The answers of both sides of a change of rules to a request.
 #[derive(Clone, Copy)]
 pub struct Answers {
-    /// What was answered before.
+    /// The answer before.
     pub old: Verdict,
-    /// What is now.
+    /// The answer now.
     pub new: Verdict,
 }
 
 impl Change {
-    /// Whether it changes. It takes no memory.
+    /// Whether the answer changes. It takes no memory.
     pub fn is_change(self) -> bool
         ensures { result ≡ is_change self }
     {
@@ -53,7 +53,7 @@ fn same_answer(one: Answer, other: Answer) -> bool
     }
 }
 
-// Whether two lines begin alike that log an answer, or there is neither.
+// Whether the audit lines of two answers begin alike, or neither has one.
 fn same_tag(one: Option<Tag>, other: Option<Tag>) -> bool
     ensures { result ≡ same_tag one other }
 {
@@ -73,7 +73,7 @@ fn same_log(one: Verdict, other: Verdict) -> bool
     same_tag(one.tag, other.tag) && one.mask.bits() == other.mask.bits()
 }
 
-// No change, where two answers that are the same are logged alike, or it doesn't matter how they are.
+// No change, where two equal answers are logged alike, or it doesn't matter how they are logged.
 fn same_or(quiet: bool, one: Verdict, other: Verdict) -> Change
     ensures { result ≡ same_or quiet one other }
 {

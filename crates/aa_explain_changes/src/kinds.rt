@@ -21,20 +21,20 @@ use std::alloc::{AllocError, Global};
 /// A kind of paths, by one of the shortest.
 #[derive(Drop)]
 pub struct Kind {
-    /// The path.
+    /// One of the shortest paths of the kind.
     pub path: Vec<u8>,
-    /// The places of the rules of the old side that match it, in rising order.
+    /// The places (indices) of the rules of the old side that match it, in rising order.
     pub old: Vec<usize>,
-    /// Those of the new side.
+    /// The places (indices) of the rules of the new side that match it, in rising order.
     pub new: Vec<usize>,
-    /// How answers change on a file of another than the task's user.
+    /// How answers change for a file of another user than the task's.
     pub others: LetterChanges,
-    /// How they change on one of the task's user.
+    /// How answers change for a file of the task's user.
     pub owned: LetterChanges,
 }
 
 impl Kind {
-    /// How answers change on a file of the task's user, or of another. It takes no memory.
+    /// How answers change for a file of the task's user, or of another. It takes no memory.
     pub fn changes_for(&self, owned: bool) -> LetterChanges
         ensures { (sides : SeenSides) → IsKind sides self.now → letter_list result ≡ changes_of sides self.now.path.items owned }
     {
@@ -42,14 +42,14 @@ impl Kind {
     }
 }
 
-/// Where the rules on files of both sides stand, for the patterns of them all.
+/// The places of the rules on files of both sides, by the indices of their patterns.
 #[derive(Drop)]
 struct FilePlaces {
     old: Vec<usize>,
     new: Vec<usize>,
 }
 
-// Those of some places that lie behind so many, counted from there.
+// The places that aren't less than `count`, less that number.
 fn places_behind(alloc: Global, count: usize, places: &[usize]) -> Result<Vec<usize>, AllocError>
     ensures { IfOk result (λ found. found.items ≡ places_behind count places.now) }
 {
@@ -136,14 +136,14 @@ pub fn kinds_of(
     Ok(kinds)
 }
 
-// Whether the answer to a letter changes so on the path of a kind.
+// Whether the answer to a letter changes in this way on the path of a kind.
 fn kind_changes_so(kind: &Kind, change: Change) -> bool
     ensures { (sides : SeenSides) → IsKind sides kind.now → result ≡ changes_so sides change kind.now.path.items }
 {
     kind.others.has(change) || kind.owned.has(change)
 }
 
-/// Whether the answer to a letter changes so on some path of these kinds. It takes no memory.
+/// Whether the answer to a letter changes in this way on some path of these kinds. It takes no memory.
 pub fn some_change_so(kinds: &[Kind], change: Change) -> bool
     ensures { (sides : SeenSides) → All (IsKind sides) kinds.now → result ≡ list_any (changes_so sides change) (paths_of_kinds kinds.now) }
 {

@@ -27,18 +27,18 @@ pub struct LetterChanges {
     exec: Change,
 }
 
-/// The places of the rules that match a path, of both sides.
+/// The places (indices) of the rules that match a path, for both sides.
 #[derive(Clone, Copy)]
 pub struct Places<'a> {
     /// The path.
     pub path: &'a [u8],
-    /// Those of the old side, in rising order.
+    /// The places of the old side, in rising order.
     pub old: &'a [usize],
-    /// Those of the new side, likewise.
+    /// The places of the new side, in rising order.
     pub new: &'a [usize],
 }
 
-/// What both sides answer to letters of a file, of the task's user or of another. It takes no memory, and no pattern is tried.
+/// The answers of both sides to letters of a file, of the task's user or of another. It takes no memory, and no pattern is tried.
 pub fn answers_at(sides: Sides<'_>, places: Places<'_>, owned: bool, letters: Perms) -> Answers
     requires { ArePlacesOf (seen_sides sides) places }
     ensures { result ≡ answers_at (seen_sides sides.entry) places.entry.path.now owned letters.0 }
@@ -97,21 +97,21 @@ fn same_change(one: Change, other: Change) -> bool
     }
 }
 
-// Whether a rule covers a letter of a file, where its pattern matches the file's path or not.
+// Whether a rule covers a letter of a file; `matched` says whether its pattern matches the file's path.
 fn covers_letter(rule: &FileRule, matched: bool, owned: bool, letter: Perms) -> bool
     ensures { result ≡ covers_letter rule.now matched owned letter.0 }
 {
     matched && (!rule.owner || owned) && letter.intersects(covered_by_file(rule))
 }
 
-// Whether it covers a letter whose answer changes.
+// Whether a rule covers a letter whose answer changes.
 fn takes_part(rule: &FileRule, matched: bool, owned: bool, letter: Perms, change: Change) -> bool
     ensures { result ≡ takes_part rule.now matched owned (letter.0, change) }
 {
     covers_letter(rule, matched, owned, letter) && change.is_change()
 }
 
-// Whether it covers a letter whose answer changes so.
+// Whether a rule covers a letter whose answer changes in this way.
 fn takes_so(
     so: Change,
     rule: &FileRule,
@@ -125,7 +125,7 @@ fn takes_so(
     covers_letter(rule, matched, owned, letter) && same_change(so, change)
 }
 
-// A set with a letter more, if a rule covers it and its answer changes so.
+// A set with one more letter, if a rule covers it and its answer changes in this way.
 fn with_changed(
     so: Change,
     rule: &FileRule,
@@ -145,7 +145,7 @@ fn with_changed(
 }
 
 impl LetterChanges {
-    /// Whether the answer to one of the letters changes so. It takes no memory.
+    /// Whether the answer to one of the letters changes in this way. It takes no memory.
     pub fn has(&self, change: Change) -> bool
         ensures { result ≡ has_change change (letter_list self.now) }
     {
@@ -158,7 +158,8 @@ impl LetterChanges {
             || same_change(change, self.exec)
     }
 
-    /// Whether a rule covers one of the letters whose answer changes, where its pattern matches the file's path or not. It takes no memory.
+    /// Whether a rule covers one of the letters whose answer changes; `matched` says whether its pattern matches the file's path. It takes no
+    /// memory.
     pub fn changes_by(&self, rule: &FileRule, matched: bool, owned: bool) -> bool
         ensures { result ≡ changes_by rule.now matched owned (letter_list self.now) }
     {
@@ -171,7 +172,7 @@ impl LetterChanges {
             || takes_part(rule, matched, owned, Perms::EXEC, self.exec)
     }
 
-    // Whether a rule covers one of the letters whose answer changes so.
+    // Whether a rule covers one of the letters whose answer changes in this way.
     fn takes_so(&self, so: Change, rule: &FileRule, matched: bool, owned: bool) -> bool
         ensures { result ≡ list_any (takes_so so rule.now matched owned) (letter_list self.now) }
     {
@@ -184,7 +185,8 @@ impl LetterChanges {
             || takes_so(so, rule, matched, owned, Perms::EXEC, self.exec)
     }
 
-    /// The change that is told of the letters that a rule covers: one of them isn't allowed any more, or one is now, or neither. It takes no memory.
+    /// The change that is reported of the letters that a rule covers: `Lost` where one of them isn't allowed any more, else `Gained` where one is
+    /// allowed now, else `Otherwise`. It takes no memory.
     pub fn change_told(&self, rule: &FileRule, matched: bool, owned: bool) -> Change
         ensures { result ≡ change_told rule.now matched owned (letter_list self.now) }
     {
@@ -197,7 +199,7 @@ impl LetterChanges {
         }
     }
 
-    /// Those of the letters that a rule covers and whose answer changes so. It takes no memory.
+    /// Those of the letters that a rule covers and whose answer changes in this way. It takes no memory.
     pub fn changed_by(&self, so: Change, rule: &FileRule, matched: bool, owned: bool) -> Perms
         ensures { result.0 ≡ changed_by so rule.now matched owned (letter_list self.now) }
     {

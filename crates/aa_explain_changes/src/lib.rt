@@ -1,4 +1,5 @@
-//! What a change of rules changes, for all paths: of each rule that one side alone has, a shortest path on which an answer changes that it takes part in.
+//! What a change of rules changes, over all paths: for each rule that only one side has, a shortest path on which an answer changes in which the
+//! rule takes part. Use `changes_of_files`; it takes a limit, since there may be exponentially many kinds of paths.
 #![tactic(auto)]
 
 mod asking;

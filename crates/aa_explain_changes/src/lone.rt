@@ -1,4 +1,4 @@
-//! The rules on files that one side alone has.
+//! The rules on files that only one side has.
 
 ghost use Rattle.std.specs.Prelude.{◌≡◌, ◌++◌, [], IfOk, OnOk, map};
 ghost use Rattle.aa_explain_diff.specs.Features.{rules_from, seen_feature};
@@ -33,7 +33,7 @@ fn numbered<'a>(alloc: Global, rules: &'a [Rule]) -> Result<Vec<Feature<'a>>, Al
     Ok(features)
 }
 
-// Those of some rules that others lack; or all, where each of them is to count.
+// The rules of a list that another list of rules lacks; or all of them, where `all`.
 fn lone_features<'a>(
     alloc: Global,
     all: bool,
@@ -79,7 +79,7 @@ fn files_among<'a>(alloc: Global, features: &[Feature<'a>]) -> Result<Vec<LoneRu
     Ok(lone)
 }
 
-/// Those of some rules on files that others lack, in their order; or all, where each of them is to count.
+/// The rules on files of a list that another list of rules lacks, in their order; or all of them, where `all`.
 ///
 /// # Errors
 ///
@@ -96,7 +96,7 @@ pub fn lone_rules<'a>(
     files_among(alloc, &features)
 }
 
-/// Appends copies of the patterns of rules to others.
+/// Appends copies of the patterns of rules.
 ///
 /// # Errors
 ///

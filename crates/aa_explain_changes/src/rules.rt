@@ -1,4 +1,4 @@
-//! What is told of a rule that one side alone has.
+//! What a rule changes that only one side has.
 
 ghost use Rattle.std.specs.Prelude.{◌≡◌, IfOk, Some, map, option_map, slice_get};
 ghost use Rattle.std.specs.List.{All};
@@ -19,28 +19,28 @@ use crate::sides::Sides;
 use aa_profile_data::{FileRule, Perms};
 use std::alloc::{AllocError, Global};
 
-/// A path on which answers change that a rule takes part in.
+/// A path on which answers change in which a rule takes part.
 #[derive(Drop)]
 pub struct FileChange {
     /// The path.
     pub path: Vec<u8>,
-    /// Whether the task's user owns its file: where answers change of another's, not.
+    /// Whether the task's user owns its file: not where answers change for another user's.
     pub owned: bool,
-    /// How they change: `Lost` where the rule covers a letter that isn't allowed any more, or else `Gained` where it covers one that is now, or else
-    /// `Otherwise`.
+    /// How they change: `Lost` where the rule covers a letter that isn't allowed any more, else `Gained` where it covers one that is allowed now,
+    /// else `Otherwise`.
     pub change: Change,
-    /// The letters that the rule covers and whose answers change so.
+    /// The letters that the rule covers and whose answers change in this way.
     pub letters: Perms,
-    /// What both sides answer to these letters together.
+    /// The answers of both sides to these letters together.
     pub answers: Answers,
 }
 
-/// A rule that one side alone has, and what it changes.
+/// A rule that only one side has, and what it changes.
 #[derive(Drop)]
 pub struct RuleChange<'a> {
     /// The rule.
     pub lone: LoneRule<'a>,
-    /// A shortest path on which answers change that it takes part in; none, where there is no such path.
+    /// A shortest path on which answers change in which it takes part; `None` where there is no such path.
     pub change: Option<FileChange>,
 }
 
@@ -58,7 +58,7 @@ fn is_matched(is_old: bool, number: usize, kind: &Kind) -> bool
     }
 }
 
-// What both sides answer to letters of a file with the path of a kind.
+// The answers of both sides to letters of a file with the path of a kind.
 fn answers_on(sides: Sides<'_>, kind: &Kind, owned: bool, letters: Perms) -> Answers
     requires { IsKind (seen_sides sides) kind.now }
     ensures { result ≡ answers_at (seen_sides sides.entry) kind.now.path.items owned letters.0 }
@@ -71,7 +71,7 @@ fn answers_on(sides: Sides<'_>, kind: &Kind, owned: bool, letters: Perms) -> Ans
     answers_at(sides, places, owned, letters)
 }
 
-// What is told of the path of a kind, whose answers to letters change so, of a file of the task's user or of another.
+// The change that a rule takes part in on the path of a kind, for a file of the task's user or of another.
 fn told_for(
     alloc: Global,
     sides: Sides<'_>,
@@ -97,7 +97,7 @@ fn told_for(
     })
 }
 
-// What is told of the path of a kind, if answers change on it that a rule takes part in, whose pattern matches it or not.
+// The change that a rule takes part in on the path of a kind, or `None`; `matched` says whether its pattern matches the path.
 fn change_at(
     alloc: Global,
     sides: Sides<'_>,
@@ -118,7 +118,7 @@ fn change_at(
     Ok(None)
 }
 
-// What is told of a rule by these kinds.
+// The first change among these kinds that a rule takes part in.
 fn first_change(
     alloc: Global,
     sides: Sides<'_>,
@@ -143,7 +143,7 @@ fn first_change(
     Ok(None)
 }
 
-/// What is told of some rules of one side by these kinds, in their order.
+/// What some rules of one side change by these kinds, in their order.
 ///
 /// # Errors
 ///

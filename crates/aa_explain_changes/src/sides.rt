@@ -2,7 +2,7 @@
 
 use aa_profile_data::Rule;
 
-/// What a profile, a child or a hat says of files, lent.
+/// What a profile, a child or a hat has for files, lent.
 #[derive(Clone, Copy)]
 pub struct Side<'a> {
     /// Whether what each of its rules decides is logged.
@@ -14,10 +14,10 @@ pub struct Side<'a> {
 /// The two sides of a change of rules.
 #[derive(Clone, Copy)]
 pub struct Sides<'a> {
-    /// What was before.
+    /// The side before the change.
     pub old: Side<'a>,
-    /// What is behind it.
+    /// The side after it.
     pub new: Side<'a>,
-    /// Whether answers are the same that differ in how they are logged alone.
+    /// Whether two answers are the same that differ only in how they are logged.
     pub quiet: bool,
 }

@@ -1,4 +1,4 @@
--- What a section has, one by one, and which of it another one lacks.
+-- What a section has, one by one, and what another section lacks of it.
 use Rattle.std.specs.Prelude.{ℕ, ◌+◌, Bool, true, false, not, ◌&&◌, if◌then◌else◌, List, [], ◌∷◌, ◌++◌, map, filter, Option, None, Some}
 use Rattle.std.specs.List.{list_any}
 use Rattle.std.specs.Str.{bytes_eq}
@@ -12,7 +12,7 @@ use Rattle.aa_explain_diff.specs.declared.features.Feature.{Feature as CodeFeatu
 use Rattle.aa_explain_diff.specs.declared.features.Feature.TheVariants as code
 
 -- One thing that a section has: the mode that it is in, or that it is disabled; that it is a hat; that it is audited; a flag that decides nothing; a
--- pattern that it is attached to; or a rule, by its number among the rules.
+-- pattern by which it attaches; or a rule, by its number among the rules.
 pub data Feature : Type 0 where
   OfMode : Option Mode → Feature
   OfHat : Feature
@@ -51,13 +51,13 @@ same_mode Complain Complain = true
 same_mode Unconfined Unconfined = true
 same_mode _ _ = false
 
--- two are in the same mode, or both disabled
+-- two sections are in the same mode, or both disabled
 abbrev pub same_state : Option Mode → Option Mode → Bool
 same_state (Some one) (Some other) = same_mode one other
 same_state None None = true
 same_state _ _ = false
 
--- two sections have the same thing, wherever a rule stands among the others
+-- two sections have the same thing, wherever a rule is among the other rules
 abbrev pub same_feature : Feature → Feature → Bool
 same_feature (OfMode one) (OfMode other) = same_state one other
 same_feature OfHat OfHat = true

@@ -1,11 +1,11 @@
--- Profiles, children and hats, as far as a change of policy changes what they have.
+-- Profiles, children and hats, with what a change of policy can change in them.
 use Rattle.std.specs.Prelude.{ℕ, Bool, List, Option}
 use Rattle.aa_profile_data.specs.declared.profile.Mode.{Mode}
 use Rattle.aa_profile_data.specs.declared.profile.Rule.{Rule}
 use Rattle.aa_explain_diff.specs.declared.sections.Section.{Section as CodeSection}
 
 -- what a profile, a child or a hat has: the mode that it is in, or none where it is disabled; whether it is a hat; whether it is audited; its flags
--- that decide nothing; the patterns that it is attached to; and its rules
+-- that decide nothing; the patterns by which it attaches; and its rules
 pub record Section : Type 0 where
   pub mode : Option Mode
   pub hat : Bool

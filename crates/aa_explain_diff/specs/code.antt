@@ -1,3 +1,3 @@
--- What is about the code: features as keys of a table, and that being the same is an equivalence.
+-- Definitions about the code: features as keys of a table, and that being the same is an equivalence.
 pub mod Keys
 pub mod SameKeys

@@ -1,4 +1,4 @@
-//! Features that others lack.
+//! Features that another section doesn't have.
 
 ghost use Rattle.std.specs.Prelude.{◌≡◌, ◌++◌, ◌∷◌, [], IfOk, IsTrue, OnOk, map, not, true};
 ghost use Rattle.aa_explain_diff.specs.Features.{Feature as SeenFeature, has_feature, lacking, seen_feature};
@@ -8,7 +8,7 @@ use crate::features::Feature;
 use indexmap::IndexSet;
 use std::alloc::{AllocError, Global};
 
-// Some features, each once.
+// Some features as a set.
 fn set_of<'a>(alloc: Global, features: &[Feature<'a>]) -> Result<IndexSet<Feature<'a>>, AllocError>
     ensures { IfOk result (λ keys. (feature : SeenFeature) → is_among keys.keys feature ≡ has_feature (map seen_feature features.now) feature) }
 {
@@ -19,7 +19,7 @@ fn set_of<'a>(alloc: Global, features: &[Feature<'a>]) -> Result<IndexSet<Featur
     Ok(keys)
 }
 
-// Whether this is the feature at a place of some.
+// Whether this is the feature at a place of a list.
 fn stands_at(features: &[Feature<'_>], place: usize, feature: Feature<'_>) -> bool
     ensures { IsTrue result → has_feature (map seen_feature features.now) (seen_feature feature.entry) ≡ true }
 {
@@ -29,8 +29,8 @@ fn stands_at(features: &[Feature<'_>], place: usize, feature: Feature<'_>) -> bo
     }
 }
 
-// Whether others lack the feature at a place, where these are all that they have. Most features stand at the same place of both, so that is looked at
-// first.
+// Whether others don't have the feature at a place; `keys` is the set of all that they have. Most features are at the same place on both sides, so
+// that place is looked at first.
 fn is_lacked<'a>(
     others: &[Feature<'a>],
     keys: &IndexSet<Feature<'a>>,
@@ -43,7 +43,7 @@ fn is_lacked<'a>(
     !stands_at(others, place, feature) && !keys.contains(&feature)
 }
 
-/// Those of some features that others lack, in their order: none of the others is the same.
+/// The features of a list that another list of features lacks, in their order.
 ///
 /// # Errors
 ///

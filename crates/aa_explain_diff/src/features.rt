@@ -10,25 +10,25 @@ use aa_glob_pattern::Pattern;
 use aa_profile_data::{Mode, Rule};
 use std::alloc::{AllocError, Global};
 
-/// One thing that a profile, a child or a hat has. Two are the same (`==`) where they are of one kind and equal; of rules, wherever they stand among the
+/// One thing that a profile, a child or a hat has. Two are equal (`==`) where they are of one kind and equal; rules wherever they are among the
 /// others.
 #[derive(Clone, Copy)]
 pub enum Feature<'a> {
-    /// The mode that it is in; none where it is disabled.
+    /// The mode that it is in; `None` where it is disabled.
     Mode(Option<Mode>),
-    /// It is a hat.
+    /// The section is a hat.
     Hat,
     /// What each of its rules decides is logged.
     Audit,
     /// A flag that decides nothing.
     Flag(&'a Sequence<u8>),
-    /// A pattern of the programs that it is attached to.
+    /// A pattern of the programs that it attaches to.
     Attachment(&'a Pattern),
-    /// A rule, and its number among the rules, from 0.
+    /// A rule, and its index among the rules.
     Rule(&'a Rule, usize),
 }
 
-// Appends a feature to others, if something holds.
+// Appends a feature, if `holds`.
 fn push_if<'a>(
     holds: bool,
     feature: Feature<'a>,
@@ -42,7 +42,7 @@ fn push_if<'a>(
     Ok(())
 }
 
-// Appends flags to other features.
+// Appends flags as features.
 fn push_flags<'a>(
     flags: &'a [Sequence<u8>],
     features: &mut Vec<Feature<'a>>,
@@ -57,7 +57,7 @@ fn push_flags<'a>(
     Ok(())
 }
 
-// Appends attachments to other features.
+// Appends attachments as features.
 fn push_attachments<'a>(
     patterns: &'a [Pattern],
     features: &mut Vec<Feature<'a>>,
@@ -72,7 +72,7 @@ fn push_attachments<'a>(
     Ok(())
 }
 
-// Appends rules to other features, by their numbers.
+// Appends rules as features, with their indices.
 fn push_rules<'a>(rules: &'a [Rule], features: &mut Vec<Feature<'a>>) -> Result<(), AllocError>
     ensures { OnOk result (map seen_feature features.new.items ≡ map seen_feature features.old.items ++ rules_from 0 rules.now) }
 {
@@ -86,7 +86,8 @@ fn push_rules<'a>(rules: &'a [Rule], features: &mut Vec<Feature<'a>>) -> Result<
     Ok(())
 }
 
-/// All that a section has, in the order of the file: its mode, whether it is a hat, whether it is audited, its flags, its attachments, and its rules.
+/// All that a section has, in the order of the file: its mode, whether it is a hat, whether it is audited, its flags, its attachments, and its
+/// rules.
 ///
 /// # Errors
 ///

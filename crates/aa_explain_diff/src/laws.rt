@@ -1,4 +1,4 @@
-//! What holds of sections that are alike, as laws over the definitions that the calls are proved to follow.
+//! Properties of sections that are alike, as laws over the definitions that the calls are proved to follow.
 
 ghost use Rattle.std.specs.Prelude.{◌≡◌, ◌<◌, ◌^◌, ℕ, Bool, List, true};
 ghost use Rattle.std.specs.List.{All};
@@ -15,8 +15,8 @@ ghost use Rattle.aa_profile_data.specs.SameRules.{HaveSameRules};
 
 use aa_decide_rules::{order_changes_no_choice, what_rules_decide};
 
-/// Two sections of which neither has something that the other lacks have one head and the same rules, and decide alike: whatever is asked, and whatever
-/// becomes of what the rules don't allow, the verdict is the same, with its tag and its mask, and so is what they say together of the start of a program,
+/// Two sections each of which has all that the other has have one head and the same rules, and decide alike: whatever is asked, and whatever happens
+/// to what the rules don't allow, the verdict is the same, with its tag and its mask, and so is what they say together of the start of a program,
 /// where the rules of one agree (as those of a file that was read do), their patterns read, and the path is a list of bytes.
 pub fn sections_alike_answer_alike()
     ensures head { (one other : Section) → are_alike one other ≡ true → HaveSameHead one other }

@@ -1,4 +1,5 @@
-//! What a change of policy changes: what one of two sections has and the other lacks, as values.
+//! What a change of policy changes: what one of two profiles, children or hats has and the other doesn't, as values. Nothing is decided here; what a
+//! change means for all paths is found by `aa_explain_changes`.
 #![tactic(auto)]
 
 mod comparing;

@@ -1,4 +1,4 @@
-//! Features that are the same.
+//! Equality of features.
 
 ghost use Rattle.std.specs.Prelude.{◌≡◌};
 ghost use Rattle.std.specs.Cmp as cmp;
@@ -25,7 +25,7 @@ fn same_mode(one: Mode, other: Mode) -> bool
     }
 }
 
-// Whether two are in the same mode, or both disabled.
+// Whether two states have the same mode, or are both disabled.
 fn same_state(one: Option<Mode>, other: Option<Mode>) -> bool
     ensures { result ≡ same_state one other }
 {
@@ -46,7 +46,7 @@ fn target_bytes(target: &Option<SharedBytes>) -> &[u8]
     }
 }
 
-// The text that tells most rules apart.
+// The text by which most rules differ.
 fn text_of_rule(rule: &Rule) -> &[u8]
     ensures { result.now ≡ text_of_rule rule.now }
 {
@@ -57,7 +57,7 @@ fn text_of_rule(rule: &Rule) -> &[u8]
     }
 }
 
-// The target of a rule on links.
+// The link target of a rule.
 fn link_of_rule(rule: &Rule) -> &[u8]
     ensures { result.now ≡ link_of_rule rule.now }
 {
@@ -67,7 +67,7 @@ fn link_of_rule(rule: &Rule) -> &[u8]
     }
 }
 
-// The set of capabilities of a rule on these.
+// The set of capabilities of a rule on them.
 fn caps_of_rule(rule: &Rule) -> u64
     ensures { result ≡ caps_of_rule rule.now }
 {
@@ -78,7 +78,7 @@ fn caps_of_rule(rule: &Rule) -> u64
 }
 
 impl<'a> Feature<'a> {
-    // The text that tells most features of a kind apart.
+    // The text by which most features of a kind differ.
     fn text(self) -> &'a [u8]
         ensures { result.now ≡ text_of (seen_feature self.entry) }
     {
@@ -90,7 +90,7 @@ impl<'a> Feature<'a> {
         }
     }
 
-    // The target of a rule on links.
+    // The link target of a rule.
     fn link(self) -> &'a [u8]
         ensures { result.now ≡ link_of (seen_feature self.entry) }
     {
@@ -100,7 +100,7 @@ impl<'a> Feature<'a> {
         }
     }
 
-    // The set of capabilities of a rule on these.
+    // The set of capabilities of a rule on them.
     fn caps(self) -> u64
         ensures { result ≡ caps_of (seen_feature self.entry) }
     {

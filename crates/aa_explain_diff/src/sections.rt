@@ -1,4 +1,4 @@
-//! Profiles, children and hats, as far as a change of policy changes what they have.
+//! Profiles, children and hats, as far as a change of policy may change what they have.
 
 use aa_bytes::Sequence;
 use aa_glob_pattern::Pattern;
@@ -7,7 +7,7 @@ use aa_profile_data::{Mode, Rule};
 /// What a profile, a child or a hat has, lent.
 #[derive(Clone, Copy)]
 pub struct Section<'a> {
-    /// The mode that it is in; none where it is disabled.
+    /// The mode that it is in; `None` where it is disabled.
     pub mode: Option<Mode>,
     /// Whether it is a hat.
     pub hat: bool,
@@ -15,7 +15,7 @@ pub struct Section<'a> {
     pub audit: bool,
     /// Its flags that decide nothing, by their texts.
     pub flags: &'a [Sequence<u8>],
-    /// The patterns of the programs that it is attached to.
+    /// The patterns of the programs that it attaches to.
     pub attachments: &'a [Pattern],
     /// The rules, in the order of the file.
     pub rules: &'a [Rule],

@@ -1,4 +1,4 @@
--- What a question about all paths is answered.
+-- The answers to questions about all paths.
 use Rattle.std.specs.Prelude.{◌≡◌, ℕ, ◌≤◌, Bool, true, List, length}
 use Rattle.aa_glob_nfa.specs.Graphs.{AreBytes}
 use Rattle.aa_glob_paths.specs.AllPaths.{TellAllPaths}
@@ -15,29 +15,29 @@ use Rattle.aa_explain_paths.specs.declared.question.PathAnswer.{PathAnswer}
 use Rattle.aa_explain_paths.specs.declared.question.PathAnswer.TheVariants.{Fails, Holds, TooMany}
 use Rattle.aa_explain_paths.specs.declared.question.Whose.{Whose}
 
--- a question: what is claimed, the letters, whose files are meant, and the patterns
+-- a question: the claim, the letters, whose files are meant, and the patterns
 pub record Asked : Type 0 where
   pub claim : Claim
   pub letters : ℕ
   pub whose : Whose
   pub patterns : List (List ℕ)
 
--- by some rules, a path that is meant says otherwise
+-- by some rules, a path that is meant breaks the claim
 pub record IsBreaking (rules : List Rule) (asked : Asked) (path : List ℕ) : Type 0 where
   pub bytes : AreBytes path
   pub meant : is_meant asked.patterns path ≡ true
   pub breaks : breaks_for asked.claim rules asked.letters asked.whose path ≡ true
 
--- What is claimed holds of each path that is meant: none says otherwise.
+-- The claim holds of each path that is meant: none breaks it.
 abbrev pub HoldsOfAll : List Rule → Asked → Type 0
 HoldsOfAll rules asked = (path : List ℕ) → IsBreaking rules asked path → ⊥
 
--- this path says otherwise, and none that does is shorter
+-- this path breaks the claim, and none that does is shorter
 pub record IsShortestBreaking (rules : List Rule) (asked : Asked) (path : List ℕ) : Type 0 where
   pub breaking : IsBreaking rules asked path
   pub shortest : (other : List ℕ) → IsBreaking rules asked other → length path ≤ length other
 
--- a path that says otherwise, the first of the owners whose file does, and the letters by which it does
+-- a path that breaks the claim, the first of the owners whose file does, and the letters by which it does
 pub record Breaking : Type 0 where
   pub path : List ℕ
   pub owned : Bool
@@ -51,15 +51,15 @@ breaking_by rules asked path =
     let owned = first_owner asked.claim rules asked.letters asked.whose path in
     record { path = path; owned = owned; letters = breaking_letters asked.claim rules asked.letters path owned }
 
--- There are so many kinds of paths that a pattern of the question matches, and that the kernel may ask about: paths are of one kind where the same patterns
--- match them, of some rules and of the question.
+-- There are so many kinds of paths that a pattern of the question matches, and that the kernel may ask about: paths are of one kind where the same
+-- patterns match them, of some rules and of the question.
 pub record AreKinds (rules : List Rule) (asked : Asked) (count : ℕ) : Type 0 where
   pub outcomes : List Outcome
   pub told : TellAllPaths (telling_patterns rules asked.patterns unasked_patterns) (all_classes rules asked.patterns unasked_patterns) outcomes
   pub counted : count ≡ length outcomes
 
--- The answer by some rules is right, where the patterns of `telling` tell paths apart: rules that let the same of each path that is meant. That there are
--- too many paths is told only where more texts than the limit are read differently by these patterns.
+-- The answer by some rules is right, where the patterns of `telling` tell paths apart: rules that allow the same of each path that is meant. The
+-- answer is that there are too many paths only where these patterns read more texts than the limit differently.
 abbrev pub IsAnswerBy : List Rule → List Rule → Asked → ℕ → PathAnswer → Type 0
 IsAnswerBy telling rules asked limit (Holds count) = HoldsOfAll rules asked × AreKinds telling asked count
 IsAnswerBy telling rules asked limit (Fails breaking) =

@@ -1,4 +1,4 @@
--- What is claimed of paths, and which of them say otherwise: by the verdicts on files of these paths.
+-- Claims on paths, and which paths break them: by the verdicts on files of these paths.
 use Rattle.std.specs.Prelude.{ℕ, Bool, false, true, not, ◌&&◌, ◌==◌, if◌then◌else◌, List, [], ◌∷◌, fold}
 use Rattle.std.specs.List.{list_any}
 use Rattle.aa_decide_rules.specs.declared.verdict.Answer.{Answer}
@@ -23,19 +23,19 @@ is_allow Deny = false
 is_allow Refuse = false
 is_allow Complain = false
 
--- Rules let all these letters of a file: the verdict in enforce mode, which no flag of a profile changes, is to allow them.
+-- Rules allow all these letters of a file: the verdict in enforce mode, which no flag of a profile changes, is to allow them.
 abbrev pub are_let : List Rule → ℕ → Bool → List ℕ → Bool
 are_let rules letters owned path = is_allow (verdict Enforcing false rules (ForFile letters owned path)).answer
 
--- a letter is among some, and rules let it, asked by itself
+-- a letter is among some, and rules allow it, asked by itself
 abbrev pub is_let : List Rule → ℕ → Bool → List ℕ → ℕ → Bool
 is_let rules letters owned path letter = not (common letters letter == 0) && are_let rules letter owned path
 
--- rules let one of these letters of a file
+-- rules allow one of these letters of a file
 abbrev pub some_is_let : List Rule → ℕ → Bool → List ℕ → Bool
 some_is_let rules letters owned path = list_any (is_let rules letters owned path) single_letters
 
--- A path says otherwise than is claimed: never, and one of the letters is let; always, and not all of them are.
+-- A path breaks the claim: `never`, and one of the letters is allowed; `always`, and not all of them are.
 abbrev pub breaks : Claim → List Rule → ℕ → List ℕ → Bool → Bool
 breaks Never rules letters path owned = some_is_let rules letters owned path
 breaks Always rules letters path owned = not (are_let rules letters owned path)
@@ -46,25 +46,25 @@ owners Owner = true ∷ []
 owners Other = false ∷ []
 owners Any = false ∷ true ∷ []
 
--- the file of a path says otherwise, owned by one of those that are meant
+-- the file of a path breaks the claim, owned by one of the owners that are meant
 abbrev pub breaks_for : Claim → List Rule → ℕ → Whose → List ℕ → Bool
 breaks_for claim rules letters whose path = list_any (breaks claim rules letters path) (owners whose)
 
--- the first of these owners
+-- the first of these owners whose file breaks the claim
 abbrev pub first_owner : Claim → List Rule → ℕ → Whose → List ℕ → Bool
 first_owner claim rules letters Owner path = true
 first_owner claim rules letters Other path = false
 first_owner claim rules letters Any path = not (breaks claim rules letters path false)
 
--- a set with a letter more, if that is among some, and rules let it
+-- a set with one letter more, if that is among some, and rules allow it
 abbrev pub with_let : List Rule → ℕ → Bool → List ℕ → ℕ → ℕ → ℕ
 with_let rules letters owned path set letter = if is_let rules letters owned path letter then union set letter else set
 
--- those of some letters of a file that rules let
+-- those of some letters of a file that rules allow
 abbrev pub let_letters : List Rule → ℕ → Bool → List ℕ → ℕ
 let_letters rules letters owned path = fold (with_let rules letters owned path) 0 single_letters
 
--- the letters by which a path says otherwise: those that are let, where none is to be; or else those that aren't
+-- the letters by which a path breaks the claim: those that are allowed, where none is to be; or else those that aren't
 abbrev pub breaking_letters : Claim → List Rule → ℕ → List ℕ → Bool → ℕ
 breaking_letters Never rules letters path owned = let_letters rules letters owned path
 breaking_letters Always rules letters path owned = without letters (let_letters rules letters owned path)

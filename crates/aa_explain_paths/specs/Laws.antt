@@ -18,7 +18,7 @@ use Rattle.aa_explain_paths.specs.declared.question.Whose.{Whose}
 abbrev pub HavePatternsAmong : List Rule → List (List ℕ) → Type 0
 HavePatternsAmong rules patterns = (rule : FileRule) → Contains rules (File rule) → (place : ℕ) × IsPatternAt patterns place rule.pattern
 
--- rules say the same of both paths: whatever the letters, whoever owns the file, and whatever becomes of what they don't allow
+-- rules have the same verdict on both paths: whatever the letters, whoever owns the file, and whatever the mediation
 abbrev pub AreAnsweredAlike : List Rule → List ℕ → List ℕ → Type 0
 AreAnsweredAlike rules path other =
     (mediation : Mediation) (flag : Bool) (letters : ℕ) (owned : Bool)
@@ -30,8 +30,8 @@ VerdictsAreAlike =
     (patterns : List (List ℕ)) (rules : List Rule) (path other : List ℕ)
     → HavePatternsAmong rules patterns → AreMatchedAlike patterns path other → AreAnsweredAlike rules path other
 
--- Of paths that stand for all, one has the verdicts of any path that a wanted pattern matches, and none that is passed over: by whatever rules whose
--- patterns are among them.
+-- Of paths that stand for all, one has the verdicts of any path that a wanted pattern matches, and that no pattern passes over: by whatever rules
+-- whose patterns are among them.
 abbrev pub VerdictsOfAllPaths : Type 0
 VerdictsOfAllPaths =
     (patterns : List (List ℕ)) (classes : List ℕ) (paths : List (List ℕ)) → StandForAllPaths patterns classes paths
@@ -39,7 +39,7 @@ VerdictsOfAllPaths =
     → (other : List ℕ) × Contains paths other × StandsFor patterns path other
     × ((rules : List Rule) → HavePatternsAmong rules patterns → AreAnsweredAlike rules path other)
 
--- No verdict depends on rules that can't decide what is claimed: whatever part of the letters is asked for, of a file that is meant.
+-- No verdict depends on rules that can't decide the claim: whatever part of the letters is asked for, of a file that is meant.
 abbrev pub RelevantRulesDecide : Type 0
 RelevantRulesDecide =
     (letters : ℕ) (whose : Whose) (rules : List Rule) (own : ℕ) (owned : Bool) (path : List ℕ)

@@ -8,7 +8,7 @@ use Rattle.aa_glob_syntax.specs.Reading.{items_of}
 abbrev pub is_matched : List (List ℕ) → List ℕ → Bool
 is_matched patterns path = list_any (λ pattern. matches (items_of pattern) path) patterns
 
--- The patterns of the paths that the kernel never asks about: it has made one slash of two, and gone by `.` and `..`.
+-- The patterns of the paths that the kernel never asks about: it has made one slash of two, and resolved `.` and `..`.
 abbrev pub unasked_patterns : List (List ℕ)
 unasked_patterns = codes "//{,**}" ∷ codes "/{,**}//{,**}" ∷ codes "/{,**/}.{,.}{,/{,**}}" ∷ []
 

@@ -1,4 +1,4 @@
--- Which rules can decide what is claimed of paths: all others cover nothing of what is asked.
+-- Which rules can decide a claim on paths: all other rules cover none of the letters.
 use Rattle.std.specs.Prelude.{ℕ, Bool, false, not, ◌&&◌, ◌||◌, ◌==◌, List}
 use Rattle.std.specs.List.{filter, list_any}
 use Rattle.aa_decide_rules.specs.Verdict.{covered_by_file}
@@ -24,6 +24,6 @@ is_relevant letters whose (Cap rule) = false
 is_relevant letters whose (Net rule) = false
 is_relevant letters whose (Other rule) = false
 
--- those of some rules that can
+-- those of some rules that can decide
 abbrev pub relevant_rules : ℕ → Whose → List Rule → List Rule
 relevant_rules letters whose rules = filter (is_relevant letters whose) rules

@@ -1,2 +1,2 @@
--- What the code's own forms mean. No public contract names these.
+-- What the code's own types mean. No public contract names these.
 pub mod Breaking

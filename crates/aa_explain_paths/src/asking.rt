@@ -22,7 +22,7 @@ use aa_glob_paths::{Outcome, outcomes_stand_for_all};
 use aa_profile_data::{Perms, Rule, which_rules_match};
 use std::alloc::{AllocError, Global};
 
-// Whose file of a path says otherwise, and by which letters, if it does.
+// Whose file of a path breaks a claim, and by which letters, if it does.
 fn broken_by(question: PathQuestion<'_>, matched: MatchedRules<'_>) -> Option<(bool, Perms)>
     requires { AreMatched matched }
     ensures { option_map (λ told. breaking_with matched.entry.path.now told.0 told.1.0) result
@@ -36,7 +36,7 @@ fn broken_by(question: PathQuestion<'_>, matched: MatchedRules<'_>) -> Option<(b
     Some((owned, letters))
 }
 
-// The path of an outcome, if it says otherwise, by the rules that match it: no pattern of a rule is tried.
+// The path of an outcome, if it breaks a claim, by the rules that match it: no pattern of a rule is tried.
 fn breaking_at(
     alloc: Global,
     rules: &[Rule],
@@ -69,7 +69,7 @@ fn breaking_at(
     }
 }
 
-// The answer by paths that stand for all: the first of them that says otherwise, if one does.
+// The answer by paths that stand for all: the first of them that breaks the claim, if one does.
 fn answer_by(
     alloc: Global,
     rules: &[Rule],
@@ -91,7 +91,7 @@ fn answer_by(
     Ok(PathAnswer::Holds(count))
 }
 
-// The answer by the rules that can decide.
+// The answer by the relevant rules.
 fn ask_relevant(
     alloc: Global,
     relevant: &[Rule],
@@ -118,16 +118,17 @@ fn ask_relevant(
     }
 }
 
-/// Whether what is claimed holds of all paths of any bytes that patterns match, as far as the kernel may ask about them: by what some rules let of the files
-/// of these paths in enforce mode (`aa_decide_rules::rules_verdict`). A folder's path ends with `/`, and is a path. The kernel asks about none with two
-/// slashes together, and none with a part `.` or `..`. Where a path says otherwise, it is one of the shortest that do. Where it holds, it is told of how many
-/// kinds of those that it may ask about.
+/// Whether a claim holds of all paths of any bytes that patterns match, as far as the kernel may ask about them: by what some rules allow of the
+/// files of these paths in enforce mode (`aa_decide_rules::rules_verdict`). A directory's path ends with `/`, and is a path. The kernel asks about
+/// none with two adjacent slashes, and none with a component `.` or `..`. Where the claim fails, the result has one of the shortest paths for which
+/// it does. Where it holds, the result has the number of kinds of those paths about which the kernel may ask.
 ///
-/// No path of those that are meant is left out: each is matched by the same patterns as one of those that are looked at, which is no longer. Only the
-/// patterns of rules that can decide are asked: those that cover one of the letters, of a file that is meant. Where more than `limit` sets of states of the
-/// patterns' automaton were to be looked at for that, `TooMany` is told.
+/// No path is left out: each is matched by the same patterns as one of those that are looked at, which is no longer. Only the patterns of relevant
+/// rules are used: those that cover one of the letters, of a file that is meant. Where more than `limit` sets of states of the patterns' automaton
+/// would have to be looked at, the result is `TooMany`.
 ///
-/// It takes time and memory for each of these sets and each of its states, and time for each of the paths that stand for all and each rule that matches it.
+/// It takes time and memory for each of these sets and each of its states, and time for each of the paths that stand for all and each rule that
+/// matches it.
 ///
 /// # Errors
 ///

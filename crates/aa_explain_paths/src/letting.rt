@@ -1,4 +1,4 @@
-//! What rules let of a file, by those that match its path.
+//! What rules allow of a file, by those that match its path.
 
 ghost use Rattle.std.specs.Prelude.{◌≡◌, false};
 ghost use Rattle.aa_decide_rules.specs.Verdict.{verdict};
@@ -13,7 +13,8 @@ use aa_decide_rules::{Answer, Mediation, Verdict, found_verdict, what_matching_r
 use aa_profile_data::{Perms, Request};
 use bitflags::Flags;
 
-/// What rules say in enforce mode of these letters of a file, by those that match its path; `audit` says whether each rule is audited. It takes no memory.
+/// The verdict of rules in enforce mode on these letters of a file, by those that match its path; `audit` says whether each rule is audited. It
+/// takes no memory.
 pub fn matched_verdict(
     audit: bool,
     matched: MatchedRules<'_>,
@@ -39,7 +40,7 @@ pub fn matched_verdict(
     )
 }
 
-// Whether rules let all these letters of a file.
+// Whether rules allow all these letters of a file.
 fn are_let(matched: MatchedRules<'_>, letters: Perms, owned: bool) -> bool
     requires { AreMatched matched }
     ensures { result ≡ are_let matched.entry.rules.now letters.0 owned matched.entry.path.now }
@@ -48,7 +49,7 @@ fn are_let(matched: MatchedRules<'_>, letters: Perms, owned: bool) -> bool
     matches!(verdict.answer, Answer::Allow)
 }
 
-// Whether a letter is among some, and rules let it.
+// Whether a letter is among some, and rules allow it.
 fn is_let(matched: MatchedRules<'_>, letters: Perms, owned: bool, letter: Perms) -> bool
     requires { AreMatched matched }
     ensures { result ≡ is_let matched.entry.rules.now letters.0 owned matched.entry.path.now letter.0 }
@@ -56,7 +57,7 @@ fn is_let(matched: MatchedRules<'_>, letters: Perms, owned: bool, letter: Perms)
     letters.intersects(letter) && are_let(matched, letter, owned)
 }
 
-// Whether rules let one of these letters of a file.
+// Whether rules allow one of these letters of a file.
 fn some_is_let(matched: MatchedRules<'_>, letters: Perms, owned: bool) -> bool
     requires { AreMatched matched }
     ensures { result ≡ some_is_let matched.entry.rules.now letters.0 owned matched.entry.path.now }
@@ -70,7 +71,7 @@ fn some_is_let(matched: MatchedRules<'_>, letters: Perms, owned: bool) -> bool
         || is_let(matched, letters, owned, Perms::EXEC)
 }
 
-// Whether a path says otherwise than is claimed of it, by what rules let of a file of the task's user, or of another's.
+// Whether a path breaks a claim, by what rules allow of a file of the task's user, or of another's.
 fn breaks(claim: Claim, matched: MatchedRules<'_>, letters: Perms, owned: bool) -> bool
     requires { AreMatched matched }
     ensures { result ≡ breaks claim matched.entry.rules.now letters.0 matched.entry.path.now owned }
@@ -81,7 +82,7 @@ fn breaks(claim: Claim, matched: MatchedRules<'_>, letters: Perms, owned: bool) 
     }
 }
 
-/// The same of whosever file is meant. It takes no memory.
+/// Whether a path breaks a claim about the files of `whose`. It takes no memory.
 pub fn breaks_for(claim: Claim, matched: MatchedRules<'_>, letters: Perms, whose: Whose) -> bool
     requires { AreMatched matched }
     ensures { result ≡ breaks_for claim matched.entry.rules.now letters.0 whose matched.entry.path.now }
@@ -95,7 +96,8 @@ pub fn breaks_for(claim: Claim, matched: MatchedRules<'_>, letters: Perms, whose
     }
 }
 
-/// Whether the task's user owns the file of a path that says otherwise than is claimed (`ask_all_paths`): where another's does, too, not. It takes no memory.
+/// Whether the task's user owns the file of a path that breaks a claim (`ask_all_paths`): not where a file of another user breaks it as well. It
+/// takes no memory.
 pub fn first_owner(claim: Claim, matched: MatchedRules<'_>, letters: Perms, whose: Whose) -> bool
     requires { AreMatched matched }
     ensures { result ≡ first_owner claim matched.entry.rules.now letters.0 whose matched.entry.path.now }
@@ -107,7 +109,7 @@ pub fn first_owner(claim: Claim, matched: MatchedRules<'_>, letters: Perms, whos
     }
 }
 
-// A set with a letter more, if that is among some, and rules let it.
+// A set with one more letter, if it is among some, and rules allow it.
 fn with_let(
     set: Perms,
     matched: MatchedRules<'_>,
@@ -125,7 +127,7 @@ fn with_let(
     }
 }
 
-// Those of these letters of a file that rules let.
+// Those of these letters of a file that rules allow.
 fn let_letters(matched: MatchedRules<'_>, letters: Perms, owned: bool) -> Perms
     requires { AreMatched matched }
     ensures { result.0 ≡ let_letters matched.entry.rules.now letters.0 owned matched.entry.path.now }
@@ -140,8 +142,8 @@ fn let_letters(matched: MatchedRules<'_>, letters: Perms, owned: bool) -> Perms
     with_let(set, matched, letters, owned, Perms::EXEC)
 }
 
-/// The letters by which the file of a path says otherwise than is claimed of it: those that are let, where none is to be; or else those that aren't. It
-/// takes no memory.
+/// The letters by which the file of a path breaks a claim: for `Never` those that are allowed, and for `Always` those that aren't. It takes no
+/// memory.
 pub fn breaking_letters(
     claim: Claim,
     matched: MatchedRules<'_>,

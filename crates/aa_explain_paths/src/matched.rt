@@ -1,4 +1,4 @@
-//! Rules, and which of them match a path.
+//! Rules, and those that match a path.
 
 use aa_profile_data::Rule;
 

@@ -21,7 +21,7 @@ fn fixed(alloc: Global, text: &[u8]) -> Result<Pattern, AllocError>
 {
     match Pattern::read(alloc, text) {
         Ok(pattern) => Ok(pattern),
-        // It reads, so memory alone can be wanting.
+        // The text reads as a pattern, so only memory can run out.
         Err(_) => Err(AllocError),
     }
 }
@@ -41,7 +41,7 @@ pub fn unasked_patterns(alloc: Global) -> Result<Vec<Pattern>, AllocError>
     Ok(patterns)
 }
 
-// Appends a class to others, so many times.
+// Appends a class `count` times.
 fn push_class(classes: &mut Vec<u32>, class: u32, count: usize) -> Result<(), AllocError>
     ensures { OnOk result (classes.new.items ≡ classes.old.items ++ replicate count class) }
 {
@@ -51,7 +51,7 @@ fn push_class(classes: &mut Vec<u32>, class: u32, count: usize) -> Result<(), Al
     Ok(())
 }
 
-/// How many of some rules are on files. It takes no memory.
+/// How many of some rules are on files. It takes no memory; `O(n)`.
 pub fn file_count(rules: &[Rule]) -> usize
     ensures counted { result ≡ length (file_patterns rules.now) }
     ensures few { result ≤ length rules.now }
@@ -67,7 +67,7 @@ pub fn file_count(rules: &[Rule]) -> usize
     count
 }
 
-// The classes of so many patterns, behind which stand some that are wanted, and some that are passed over.
+// The classes of so many other patterns, followed by those that are wanted, and those that are passed over.
 fn telling_classes(
     alloc: Global,
     others: usize,
@@ -83,7 +83,7 @@ fn telling_classes(
     Ok(classes)
 }
 
-// The automaton of some patterns with these behind them, and those behind these.
+// The automaton of some patterns, followed by those that are wanted, and those that are passed over.
 fn telling_automaton(
     alloc: Global,
     others: AutomatonBuilder,
@@ -99,8 +99,8 @@ fn telling_automaton(
     Ok(all.finish())
 }
 
-/// Paths that stand for all that one of some patterns matches that are wanted, and none of those that are passed over, by all these and by others: those of
-/// `others`, of which there are so many. None where these paths are too many: more than `limit` sets of states were to be looked at.
+/// Paths that stand for all that one of the `wanted` patterns matches and none of `unasked`, told apart by all these patterns and by the `count`
+/// patterns of `others`. `None` where these paths are too many: more than `limit` sets of states would have to be looked at.
 ///
 /// # Errors
 ///

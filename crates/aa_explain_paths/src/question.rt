@@ -1,4 +1,4 @@
-//! Questions about all paths, and what they are answered.
+//! Questions about all paths, and their answers.
 
 ghost use Rattle.std.specs.Prelude.{◌≡◌};
 ghost use Rattle.aa_profile_data.specs.Request.{ForFile};
@@ -10,20 +10,20 @@ use aa_profile_data::{Perms, Request};
 /// What is claimed of paths.
 #[derive(Clone, Copy, Debug, PartialEq, Eq)]
 pub enum Claim {
-    /// None of the letters is let, of no path.
+    /// None of the letters is allowed, for any path.
     Never,
-    /// All of the letters are let, of each path.
+    /// All of the letters are allowed, for each path.
     Always,
 }
 
 /// Whose files are meant.
 #[derive(Clone, Copy, Debug, PartialEq, Eq)]
 pub enum Whose {
-    /// Those that the task's user owns.
+    /// Files that the task's user owns.
     Owner,
-    /// Those of others.
+    /// Files of other users.
     Other,
-    /// Both.
+    /// Files of any owner.
     Any,
 }
 
@@ -40,19 +40,19 @@ pub struct PathQuestion<'a> {
     pub patterns: &'a [Pattern],
 }
 
-/// A path that says otherwise than is claimed.
+/// A path for which a claim fails.
 #[derive(Drop)]
 pub struct Breaking {
     /// The path.
     pub path: Vec<u8>,
-    /// Whether the task's user owns its file: where another's says otherwise, too, not.
+    /// Whether the task's user owns its file: not where a file of another user breaks the claim as well.
     pub owned: bool,
-    /// The letters by which it does: those that are let, where none is to be; or else those that aren't.
+    /// The letters by which it does: for `Never` those that are allowed, and for `Always` those that aren't.
     pub letters: Perms,
 }
 
 impl Breaking {
-    /// The request that says so.
+    /// The request whose answer breaks the claim.
     pub fn request(&self) -> Request<'_>
         ensures { request_of result ≡ ForFile self.now.letters.0 self.now.owned self.now.path.items }
     {
@@ -64,13 +64,13 @@ impl Breaking {
     }
 }
 
-/// What a question about all paths is answered.
+/// The answer to a question about all paths.
 #[derive(Drop)]
 pub enum PathAnswer {
-    /// What is claimed holds of each path. So many paths stand for all that the kernel may ask about: no two of them are matched by the same patterns.
+    /// The claim holds for each path. So many paths stand for all about which the kernel may ask: no two of them are matched by the same patterns.
     Holds(usize),
-    /// This path says otherwise, and no shorter one does.
+    /// The claim fails for this path, and for no shorter one.
     Fails(Breaking),
-    /// There are more different beginnings of paths than were to be looked at.
+    /// There are more different beginnings of paths than the limit.
     TooMany,
 }

@@ -1,4 +1,4 @@
-//! The rules that can decide what is claimed.
+//! The rules that are relevant to a claim.
 
 ghost use Rattle.std.specs.Prelude.{◌≡◌, IfOk, OnOk};
 ghost use Rattle.aa_explain_paths.specs.Relevant.{covers_some, has_owned, is_relevant, relevant_rules};
@@ -26,7 +26,7 @@ fn covers_some(letters: Perms, rule: &FileRule) -> bool
     letters.intersects(covered_by_file(rule))
 }
 
-// Whether a rule can decide what is claimed of some letters.
+// Whether a rule is relevant to a claim about some letters.
 fn is_relevant(letters: Perms, whose: Whose, rule: &Rule) -> bool
     ensures { result ≡ is_relevant letters.0 whose rule.now }
 {
@@ -36,9 +36,9 @@ fn is_relevant(letters: Perms, whose: Whose, rule: &Rule) -> bool
     }
 }
 
-/// Copies of those of some rules that can decide what is claimed of these letters of these files, in their order. All others cover none of the letters,
-/// or are of the owner alone where nobody's own files are meant, so no verdict depends on them (`relevant_rules_decide`); and the fewer patterns, the
-/// fewer sets of states.
+/// Copies of those of some rules that are relevant to a claim about these letters of these files, in their order. All others cover none of the
+/// letters, or have `owner` where only files of other users are meant, so no verdict depends on them (`relevant_rules_decide`); and the fewer
+/// patterns, the fewer sets of states.
 ///
 /// # Errors
 ///

@@ -21,7 +21,7 @@ pub record IsPathOf (patterns : List (List ℕ)) (path : List ℕ) : Type 0 wher
   pub bytes : AreBytes path
   pub meant : is_meant patterns path ≡ true
 
--- none that is one is shorter
+-- none of these paths is shorter
 pub record IsShortestPathOf (patterns : List (List ℕ)) (path : List ℕ) : Type 0 where
   pub one : IsPathOf patterns path
   pub shortest : (other : List ℕ) → IsPathOf patterns other → length path ≤ length other
@@ -34,7 +34,7 @@ own_patterns rules number = tried_patterns (number ∷ []) rules
 abbrev pub covered_at : List ℕ → Rule → ℕ
 covered_at path rule = covers (ForFile (all_letters - 1) true path) rule
 
--- the letters that the rules on files of a written rule cover of it
+-- the letters that the rules on files of a written rule cover of the file of a path
 abbrev pub with_own : List ℕ → ℕ → ℕ → Numbered → ℕ
 with_own path number set one = if is_made_of (number ∷ []) one then union set (covered_at path one.rule) else set
 
@@ -45,7 +45,7 @@ covered_by_own path number rules = fold (with_own path number) 0 rules
 abbrev pub is_beside : List ℕ → List ℕ → ℕ → Numbered → Bool
 is_beside path gone letters one = stays gone one && not (common letters (covered_at path one.rule) == 0)
 
--- the places of those that do among some rules, of which the first has this place
+-- the indexes of those rules that stay and cover some of these letters, among rules of which the first has this index
 abbrev pub place_beside : List ℕ → List ℕ → ℕ → ℕ → Numbered → List ℕ
 place_beside path gone letters place one = if is_beside path gone letters one then place ∷ [] else []
 
@@ -53,8 +53,8 @@ abbrev pub places_beside : List ℕ → List ℕ → ℕ → ℕ → List Number
 places_beside path gone letters place [] = []
 places_beside path gone letters place (one ∷ rules) = place_beside path gone letters place one ++ places_beside path gone letters (place + 1) rules
 
--- the place of the first rule on files of a written rule that matches a path, where the first of some rules has this
--- place; where there is none, the place behind them all
+-- the index of the first rule on files of a written rule that matches a path, where the first of some rules has this index; where there is none, the
+-- index past the last
 abbrev pub is_own : List ℕ → ℕ → Numbered → Bool
 is_own path number one = is_made_of (number ∷ []) one && is_matching path one.rule
 
@@ -62,8 +62,8 @@ abbrev pub own_place : List ℕ → ℕ → ℕ → List Numbered → ℕ
 own_place path number place [] = place
 own_place path number place (one ∷ rules) = if is_own path number one then place else own_place path number (place + 1) rules
 
--- A path, the place of the first rule of a written rule that matches it, and those of the rules that stay and cover
--- something there that the written rule covers, in rising order.
+-- A path, the index of the first rule of a written rule that matches it, and the indexes of the rules that stay and cover something there that the
+-- written rule covers, in rising order.
 pub record Overlap : Type 0 where
   pub path : List ℕ
   pub rule : ℕ
@@ -83,18 +83,18 @@ abbrev pub seen_example : CodeExample → Option Overlap
 seen_example MatchesNothing = None
 seen_example (Overlaps overlap) = Some (seen_overlap overlap)
 
--- What is told of a written rule, where some are gone, it among them: a shortest path that it matches, with the rules
--- that stay and cover something there that it covers; or that it matches no path that the kernel may ask about.
+-- The report on a written rule, where some are gone, this rule among them: a shortest path that it matches, with the rules that stay and cover
+-- something there that it covers; or that it matches no path that the kernel may ask about.
 abbrev pub IsExampleOf : WrittenRules → List ℕ → ℕ → Option Overlap → Type 0
 IsExampleOf rules gone number None = (path : List ℕ) → IsPathOf (own_patterns (numbered rules) number) path → ⊥
 IsExampleOf rules gone number (Some overlap) =
     IsShortestPathOf (own_patterns (numbered rules) number) overlap.path × (overlap ≡ overlap_on (numbered rules) gone number overlap.path)
 
--- the patterns by which its paths are found: its own, and those of paths that the kernel never asks about
+-- the patterns by which the paths of a written rule are found: its own, and those of paths that the kernel never asks about
 abbrev pub example_patterns : WrittenRules → ℕ → List (List ℕ)
 example_patterns rules number = telling_among [] (own_patterns (numbered rules) number) unasked_patterns
 
--- It is right; or nothing is told, and more texts than the limit are read differently by these patterns.
+-- The report is right; or there is none, and these patterns read more texts than the limit differently.
 abbrev pub IsExampleWithin : WrittenRules → List ℕ → ℕ → ℕ → Option CodeExample → Type 0
 IsExampleWithin rules gone number limit None = AreMoreTextsThan (example_patterns rules number) limit
 IsExampleWithin rules gone number limit (Some example) = IsExampleOf rules gone number (seen_example example)

@@ -1,4 +1,4 @@
--- What follows where written rules are told.
+-- What follows where written rules are reported.
 use Rattle.std.specs.Prelude.{◌≡◌, ℕ, ◌<◌, Bool, true, List}
 use Rattle.aa_decide_rules.specs.Choices.{choice}
 use Rattle.aa_decide_rules.specs.Verdict.{verdict}

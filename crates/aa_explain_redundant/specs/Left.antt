@@ -5,19 +5,19 @@ use Rattle.aa_profile_data.specs.Matching.{is_matching}
 use Rattle.aa_profile_data.specs.declared.profile.Rule.{Rule}
 use Rattle.aa_profile_data.specs.declared.profile.Rule.TheVariants.{Cap, File, Net, Other}
 
--- What a profile, a child or a hat says of files: whether each of its rules is audited, the rules, and for each the number of the written rule that it was
--- made of.
+-- A profile, a child or a hat as it decides on files: the flag that audits each of its rules, its rules, and for each the number of the written rule
+-- that it was made of.
 pub record WrittenRules : Type 0 where
   pub audit : Bool
   pub rules : List Rule
   pub written : List ℕ
 
--- a rule, and the number of the written rule that it was made of, if that is told
+-- a rule, and the number of the written rule that it was made of, if that is known
 pub record Numbered : Type 0 where
   pub rule : Rule
   pub written : Option ℕ
 
--- rules with their numbers, of which the first stands at a place
+-- rules with their numbers, of which the first has this index
 abbrev pub numbered_from : ℕ → List ℕ → List Rule → List Numbered
 numbered_from place written [] = []
 numbered_from place written (rule ∷ rules) = record { rule = rule; written = slice_get written place } ∷ numbered_from (place + 1) written rules
@@ -46,11 +46,11 @@ stays gone one = not (is_made_of gone one)
 abbrev pub rules_among : List Numbered → List Rule
 rules_among numbered = map (λ (one : Numbered). one.rule) numbered
 
--- the rules that are left of some
+-- the rules that are left of some rules
 abbrev pub left_of : List ℕ → List Numbered → List Rule
 left_of gone numbered = rules_among (filter (stays gone) numbered)
 
--- What is left where the rules on files are taken away that were made of some written rules.
+-- The rules that are left where the rules on files are taken away that were made of some written rules.
 abbrev pub left : WrittenRules → List ℕ → List Rule
 left rules gone = left_of gone (numbered rules)
 
@@ -58,14 +58,14 @@ left rules gone = left_of gone (numbered rules)
 abbrev pub matching : List ℕ → List Numbered → List Numbered
 matching path rules = filter (λ (one : Numbered). is_matching path one.rule) rules
 
--- a rule of a written rule is among some
+-- a rule made of a written rule is among some
 abbrev pub speaks : ℕ → List Numbered → Bool
 speaks number rules = list_any (is_made_of (number ∷ [])) rules
 
--- a written rule isn't among those that are told
+-- a written rule isn't among those that are reported
 abbrev pub stays_named : List ℕ → ℕ → Bool
 stays_named told number = not (is_among told (Some number))
 
--- It can be told: a rule on files was made of it, and it isn't told yet.
+-- A written rule can be reported: a rule on files was made of it, and it isn't reported yet.
 abbrev pub can_be_told : List Numbered → List ℕ → ℕ → Bool
 can_be_told rules told number = speaks number rules && stays_named told number

@@ -14,12 +14,12 @@ whole_side rules = record { audit = rules.audit; rules = rules.rules }
 abbrev pub side_left : WrittenRules → List ℕ → Side
 side_left rules gone = record { audit = rules.audit; rules = left rules gone }
 
--- Two sides say the same of a path: of each letter of a file, with tag and mask, and of the start of its program, whoever owns it.
+-- Two sides give the same verdict on a path: on each letter of a file, with tag and mask, and on the start of its program, whoever owns it.
 pub record SayTheSame (one other : Side) (path : List ℕ) : Type 0 where
   pub letters : (owned : Bool) (letter : ℕ) → Contains single_letters letter → side_verdict one path owned letter ≡ side_verdict other path owned letter
   pub starts : (owned : Bool) → choice one.audit owned path one.rules ≡ choice other.audit owned path other.rules
 
--- They don't: a letter of a file is answered or logged otherwise, or something else is said of the start of its program, of one owner at least.
+-- Two sides differ on a path: a letter of a file is answered or logged otherwise, or the start of its program is, of one owner at least.
 pub record IsLetterOtherwise (one other : Side) (path : List ℕ) : Type 0 where
   pub owned : Bool
   pub letter : ℕ
@@ -33,11 +33,11 @@ pub record IsStartOtherwise (one other : Side) (path : List ℕ) : Type 0 where
 abbrev pub IsSaidOtherwise : Side → Side → List ℕ → Type 0
 IsSaidOtherwise one other path = IsLetterOtherwise one other path ⊎ IsStartOtherwise one other path
 
--- Without these written rules, all together, the same is said of each path that the kernel may ask about.
+-- Without these written rules, all together, the answers on each path that the kernel may ask about stay.
 abbrev pub AnswersStay : WrittenRules → List ℕ → Type 0
 AnswersStay rules gone = (path : List ℕ) → AreBytes path → may_be_asked path ≡ true → SayTheSame (whole_side rules) (side_left rules gone) path
 
--- a path that the kernel may ask about, of which something else is said without them
+-- a path that the kernel may ask about, on which an answer differs without these written rules
 pub record IsAnsweredOtherwise (rules : WrittenRules) (gone path : List ℕ) : Type 0 where
   pub bytes : AreBytes path
   pub asked : may_be_asked path ≡ true
@@ -46,23 +46,23 @@ pub record IsAnsweredOtherwise (rules : WrittenRules) (gone path : List ℕ) : T
 abbrev pub AnswersChange : WrittenRules → List ℕ → Type 0
 AnswersChange rules gone = (path : List ℕ) × IsAnsweredOtherwise rules gone path
 
--- A written rule is told next: answers stay without it and those that are told before.
+-- A written rule is reported next: answers stay without it and those that are reported before.
 pub record IsToldNext (rules : WrittenRules) (told : List ℕ) (number : ℕ) : Type 0 where
   pub can : can_be_told (numbered rules) told number ≡ true
   pub stay : AnswersStay rules (told ++ number ∷ [])
 
--- It isn't: answers change. Or no rule on files was made of it, or it is told already.
+-- A written rule isn't reported next: answers change without it. Or no rule on files was made of it, or it is reported already.
 abbrev pub IsNotToldNext : WrittenRules → List ℕ → ℕ → Type 0
 IsNotToldNext rules told number = AnswersChange rules (told ++ number ∷ []) ⊎ (can_be_told (numbered rules) told number ≡ false)
 
--- Of written rules that are tried one after another, where some are told before: one that is told is gone for those behind it.
+-- The reports of written rules that are tried one after another, where some are reported before: one that is reported is gone for those after it.
 abbrev pub AreToldBehind : WrittenRules → List ℕ → List ℕ → List ℕ → Type 0
 AreToldBehind rules told [] all = all ≡ told
 AreToldBehind rules told (number ∷ tried) all =
     (IsToldNext rules told number × AreToldBehind rules (told ++ number ∷ []) tried all)
     ⊎ (IsNotToldNext rules told number × AreToldBehind rules told tried all)
 
--- These are told of the written rules that are tried; and all of them can be taken away together.
+-- These are reported of the written rules that are tried; and all of them can be taken away together.
 pub record AreToldOf (rules : WrittenRules) (tried told : List ℕ) : Type 0 where
   pub sound : AnswersStay rules told
   pub exact : AreToldBehind rules [] tried told

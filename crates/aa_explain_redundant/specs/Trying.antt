@@ -10,6 +10,6 @@ use Rattle.aa_explain_redundant.specs.Left.{Numbered, WrittenRules, is_made_of, 
 abbrev pub tried_patterns : List ℕ → List Numbered → List (List ℕ)
 tried_patterns tried rules = file_patterns (rules_among (filter (is_made_of tried) rules))
 
--- those of all rules on files, those of the written rules that are tried, and those of paths that the kernel never asks about
+-- the patterns of all rules on files, those of the written rules that are tried, and those of paths that the kernel never asks about
 abbrev pub trying_patterns : WrittenRules → List ℕ → List (List ℕ)
 trying_patterns rules tried = telling_patterns rules.rules (tried_patterns tried (numbered rules)) unasked_patterns

@@ -1,4 +1,4 @@
--- What the code's own forms mean. No public contract names these.
+-- What the code's own types mean. No public contract names these.
 pub mod Comparing
 pub mod Copies
 pub mod Examples

@@ -1,4 +1,4 @@
-//! Which written rules decide nothing, of all paths.
+//! Which written rules decide nothing, over all paths.
 
 ghost use Rattle.std.specs.Prelude.{◌≡◌, ◌++◌, ◌∷◌, [], IfOk, IfSome, None, OnOk, map};
 ghost use Rattle.aa_glob_paths.specs.AllPaths.{TellAllPaths};
@@ -20,7 +20,7 @@ use aa_glob_pattern::Pattern;
 use aa_profile_data::Rule;
 use std::alloc::{AllocError, Global};
 
-// Appends the pattern of a rule on files, if it was made of one of the written rules that are tried.
+// Appends the pattern of a rule on files, if it was made of one of the written rules in `tried`.
 fn push_tried(
     alloc: Global,
     tried: &[usize],
@@ -37,7 +37,7 @@ fn push_tried(
     Ok(())
 }
 
-/// The patterns of the rules on files that were made of the written rules that are tried.
+/// The patterns of the rules on files that were made of the written rules in `tried`.
 ///
 /// # Errors
 ///
@@ -58,7 +58,7 @@ pub fn tried_patterns(
     Ok(patterns)
 }
 
-// Paths that stand for all that one of these patterns matches; none where they are too many.
+// Paths that stand for all that one of these patterns matches; `None` where they are too many.
 fn trying_outcomes(
     alloc: Global,
     rules: WrittenRules<'_>,
@@ -84,18 +84,17 @@ fn trying_outcomes(
     )
 }
 
-/// The numbers of those of some written rules that decide nothing, in the order in which they are tried: without them,
-/// all together, the same is said of each path of any bytes that the kernel may ask about. That is: each letter of its
-/// file is answered the same in enforce mode, and logged the same, of the task's user and of others; and the start of
-/// its program is denied or leads where it did. So any letters together are answered the same, in whatever mode
-/// (`without_redundant_rules`). Of a written rule its rules on files are tried, all together: those on capabilities and
-/// sockets stay, and a written rule without any on files isn't told. Why one decides nothing is told by `example_of`.
+/// The numbers of those of some written rules that decide nothing, in the order in which they are tried: without them, all together, each path of
+/// any bytes about which the kernel may ask is answered the same. That is: each letter of its file is answered the same in enforce mode, and logged
+/// the same, for the task's user and for others; and the start of its program is denied or leads where it did. So any letters together are answered
+/// the same, in whatever mode (`without_redundant_rules`). Of a written rule its rules on files are tried, all together: those on capabilities and
+/// sockets stay, and a written rule without any on files isn't in the result. Why one decides nothing is answered by `example_of`.
 ///
-/// They are tried one after another, in the order of `tried`, by the numbers of `rules.written`. One that is told is
-/// gone for those behind it: of two that are equal that one is told which is tried first. Where one isn't told,
-/// something else is said of some path without it and those that were told before it.
+/// They are tried one after another, in the order of `tried`, by the numbers of `rules.written`. One that decides nothing is taken away for those
+/// after it: of two that are equal the one is in the result that is tried first. Where one isn't, some path is answered differently without it and
+/// those in the result before it.
 ///
-/// None where paths are too many: more than `limit` sets of states of the patterns' automaton were to be looked at.
+/// `None` where paths are too many: more than `limit` sets of states of the patterns' automaton would have to be looked at.
 ///
 /// # Errors
 ///

@@ -1,4 +1,4 @@
-//! Whether something else is said of a path without some rules.
+//! Whether a path is answered differently without some rules.
 
 ghost use Rattle.std.specs.Prelude.{◌≡◌, IfOk};
 ghost use Rattle.std.specs.List.{list_any};
@@ -23,13 +23,13 @@ pub struct Compared<'a> {
     pub audit: bool,
     /// The path.
     pub path: &'a [u8],
-    /// All of them.
+    /// All rules that match the path.
     pub all: &'a Copies,
-    /// Those that are left.
+    /// The rules of them that are left.
     pub left: &'a Copies,
 }
 
-// Whether a letter of a file is answered or logged otherwise.
+// Whether a letter of a file is answered or logged differently.
 fn letter_changes(compared: Compared<'_>, letter: Perms, owned: bool) -> bool
     requires { AreCompared compared }
     ensures { result ≡ letter_changes (all_side compared.entry) (left_side compared.entry) compared.entry.path.now owned letter.0 }
@@ -41,7 +41,7 @@ fn letter_changes(compared: Compared<'_>, letter: Perms, owned: bool) -> bool
     change_between(false, before, now).is_change()
 }
 
-// Whether one of the letters is.
+// Whether one of the letters is answered or logged differently.
 fn some_letter_changes(compared: Compared<'_>, owned: bool) -> bool
     requires { AreCompared compared }
     ensures { result ≡ list_any (letter_changes (all_side compared.entry) (left_side compared.entry) compared.entry.path.now owned) single_letters }
@@ -55,14 +55,14 @@ fn some_letter_changes(compared: Compared<'_>, owned: bool) -> bool
         || letter_changes(compared, Perms::EXEC, owned)
 }
 
-// Whether two words are there both, or neither is.
+// Whether two flags are equal.
 fn same_flag(one: bool, other: bool) -> bool
     ensures { result ≡ same_flag one other }
 {
     one == other
 }
 
-// Whether the same is said of a start.
+// Whether two choices for a start are the same.
 fn same_choice(one: ExecChoice<'_>, other: ExecChoice<'_>) -> bool
     ensures { result ≡ same_choice (seen_choice one.entry) (seen_choice other.entry) }
 {
@@ -85,7 +85,7 @@ fn same_choice(one: ExecChoice<'_>, other: ExecChoice<'_>) -> bool
     }
 }
 
-// What rules say of the start of the program of a path.
+// The choice of rules for the start of the program of a path.
 fn choice_by<'a>(
     alloc: Global,
     audit: bool,
@@ -99,7 +99,7 @@ fn choice_by<'a>(
     exec_choice(alloc, audit, &copies.rules, &copies.places, owned)
 }
 
-// Whether something else is said of the start of the program of the path.
+// Whether the choice for the start of the program of the path differs.
 fn start_changes(alloc: Global, compared: Compared<'_>, owned: bool) -> Result<bool, AllocError>
     requires { AreCompared compared }
     ensures { IfOk result (λ changes. changes ≡ start_changes (all_side compared.entry) (left_side compared.entry) compared.entry.path.now owned) }
@@ -109,7 +109,7 @@ fn start_changes(alloc: Global, compared: Compared<'_>, owned: bool) -> Result<b
     Ok(!same_choice(all, left))
 }
 
-// Whether something else is said of a file of the task's user, or of another's.
+// Whether a file of the task's user, or of another's, is answered differently.
 fn answers_change_for(
     alloc: Global,
     compared: Compared<'_>,
@@ -124,7 +124,7 @@ fn answers_change_for(
     start_changes(alloc, compared, owned)
 }
 
-/// Whether something else is said of the path.
+/// Whether the path is answered differently.
 ///
 /// # Errors
 ///

@@ -16,7 +16,7 @@ use std::alloc::{AllocError, Global};
 pub struct Copies {
     /// The rules.
     pub rules: Vec<Rule>,
-    /// Their places, from 0.
+    /// Their indices, from 0.
     pub places: Vec<usize>,
 }
 
@@ -30,7 +30,7 @@ fn push_copy(alloc: Global, rule: &Rule, copies: &mut Copies) -> Result<(), Allo
     Ok(())
 }
 
-// Appends a copy of a rule, unless it is taken away.
+// Appends a copy of a rule, unless it is one of those that are taken away.
 fn push_left(
     alloc: Global,
     gone: &[usize],

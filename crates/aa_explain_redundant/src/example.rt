@@ -1,5 +1,5 @@
-//! An example of what a written rule matches that decides nothing: a shortest path, and the rules that stay and cover
-//! something there that it covers.
+//! An example of what a written rule matches that decides nothing: a shortest path, and the rules that stay and cover there something of what the
+//! rule covers.
 
 ghost use Rattle.std.specs.Prelude.{◌≡◌, ◌++◌, ◌∷◌, [], IfOk, IfSome, None, OnOk, map};
 ghost use Rattle.aa_explain_paths.specs.Meant.{unasked_patterns};
@@ -23,28 +23,27 @@ use aa_profile_data::{Perms, Request, Rule};
 use bitflags::Flags;
 use std::alloc::{AllocError, Global};
 
-/// A path that a written rule matches, and the rules that stay and cover something there that it covers.
+/// A path that a written rule matches, and the rules that stay and cover there something of what the rule covers.
 #[derive(Drop)]
 pub struct Overlap {
-    /// One of the shortest paths that one of its rules on files matches, and that the kernel may ask about.
+    /// One of the shortest paths that one of its rules on files matches, and about which the kernel may ask.
     pub path: Vec<u8>,
-    /// The place, among all rules, of the first of its rules on files that matches the path.
+    /// The index, among all rules, of the first of its rules on files that matches the path.
     pub rule: usize,
-    /// The places of the rules that stay, match the path and cover a letter that its rules on files cover there, in
-    /// rising order.
+    /// The indices of the rules that stay, match the path and cover a letter that its rules on files cover there, in rising order.
     pub beside: Vec<usize>,
 }
 
 /// What a written rule matches, by an example.
 #[derive(Drop)]
 pub enum Example {
-    /// It matches no path that the kernel may ask about.
+    /// The written rule matches no path about which the kernel may ask.
     MatchesNothing,
-    /// It matches some, of which this one is among the shortest.
+    /// The written rule matches such paths, of which this one is among the shortest.
     Overlaps(Overlap),
 }
 
-// Paths that stand for all that one of these patterns matches; none where they are too many.
+// Paths that stand for all that one of these patterns matches; `None` where they are too many.
 fn own_outcomes(
     alloc: Global,
     wanted: &[Pattern],
@@ -71,7 +70,7 @@ fn covered_at(path: &[u8], rule: &Rule) -> Perms
     covers(&request, rule)
 }
 
-// The letters that the rules on files of a written rule cover of it.
+// The letters that the rules on files of a written rule cover of the file of a path.
 fn covered_by_own(path: &[u8], number: usize, rules: &[NumberedRule<'_>]) -> Perms
     ensures { result.0 ≡ covered_by_own path.now number (map seen_numbered rules.now) }
 {
@@ -94,7 +93,7 @@ fn is_beside(path: &[u8], gone: &[usize], letters: Perms, one: NumberedRule<'_>)
     !is_made_of(gone, one) && letters.intersects(covered_at(path, one.rule))
 }
 
-// Appends the place of a rule, if it does.
+// Appends the index of a rule, if it stays and covers some of these letters.
 fn push_beside(
     path: &[u8],
     gone: &[usize],
@@ -111,7 +110,7 @@ fn push_beside(
     Ok(())
 }
 
-// The places of those of some rules that do.
+// The indices of those of some rules that stay and cover some of these letters.
 fn places_beside(
     alloc: Global,
     path: &[u8],
@@ -142,7 +141,7 @@ fn is_matching(path: &[u8], rule: &Rule) -> bool
     }
 }
 
-// Whether a rule on files is one of a written rule, and matches a path.
+// Whether a rule on files was made of a written rule, and matches a path.
 fn is_own(path: &[u8], number: usize, one: NumberedRule<'_>) -> bool
     ensures { result ≡ is_own path.now number (seen_numbered one.entry) }
 {
@@ -150,7 +149,7 @@ fn is_own(path: &[u8], number: usize, one: NumberedRule<'_>) -> bool
     is_made_of(&own, one) && is_matching(path, one.rule)
 }
 
-// The place of the first of some rules that is; or that behind them all.
+// The index of the first rule on files that was made of a written rule and matches a path; the number of rules where there is none.
 fn own_place(path: &[u8], number: usize, rules: &[NumberedRule<'_>]) -> usize
     ensures { result ≡ own_place path.now number 0 (map seen_numbered rules.now) }
 {
@@ -166,7 +165,7 @@ fn own_place(path: &[u8], number: usize, rules: &[NumberedRule<'_>]) -> usize
     place
 }
 
-// What is told of a path.
+// The example on a path.
 fn overlap_on(
     alloc: Global,
     gone: &[usize],
@@ -185,7 +184,7 @@ fn overlap_on(
     })
 }
 
-// What is told by the paths of outcomes: of the first, if there is one.
+// The example by the paths of outcomes: the first of them, if there is one.
 fn example_by(
     alloc: Global,
     gone: &[usize],
@@ -204,12 +203,10 @@ fn example_by(
     }
 }
 
-/// An example of what a written rule matches that is among those that are gone: one of the shortest paths that one of
-/// its rules on files matches and that the kernel may ask about, with the rules that stay, match it and cover a letter
-/// that its rules on files cover there; or that it matches no such path.
+/// An example of what a written rule matches that is among those in `gone`: one of the shortest paths that one of its rules on files matches and
+/// about which the kernel may ask, with the rules that stay, match it and cover a letter that its rules on files cover there; or `MatchesNothing`.
 ///
-/// None where paths are too many: more than `limit` sets of states of the automaton of its own patterns were to be
-/// looked at.
+/// `None` where paths are too many: more than `limit` sets of states of the automaton of its own patterns would have to be looked at.
 ///
 /// # Errors
 ///

@@ -18,7 +18,7 @@ use std::alloc::{AllocError, Global};
 /// A kind of paths, by one of the shortest.
 #[derive(Drop)]
 pub struct Kind<'a> {
-    /// The path.
+    /// One of the shortest paths of the kind.
     pub path: Vec<u8>,
     /// The rules on files whose pattern matches it, in their order.
     pub rules: Vec<NumberedRule<'a>>,
@@ -26,7 +26,7 @@ pub struct Kind<'a> {
     pub all: Copies,
 }
 
-// Appends a rule, if its place is among some.
+// Appends a rule, if its index is among some.
 fn push_at<'a>(
     places: &[usize],
     place: usize,
@@ -41,7 +41,7 @@ fn push_at<'a>(
     Ok(())
 }
 
-// Those of some rules that stand at these places.
+// Those of some rules that are at these indices.
 fn rules_at<'a>(
     alloc: Global,
     places: &[usize],
@@ -60,7 +60,7 @@ fn rules_at<'a>(
     Ok(found)
 }
 
-// The kind of the path of an outcome, by the places of the rules on files: no pattern of a rule is tried.
+// The kind of the path of an outcome, by the indices of the rules on files: no pattern of a rule is tried.
 fn kind_of<'a>(
     alloc: Global,
     rules: &[NumberedRule<'a>],
@@ -87,7 +87,7 @@ fn kind_of<'a>(
     })
 }
 
-/// The kinds of the paths of outcomes, in their order, by the places of the rules on files.
+/// The kinds of the paths of outcomes, in their order, by the indices of the rules on files.
 ///
 /// # Errors
 ///

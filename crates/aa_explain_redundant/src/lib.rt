@@ -1,4 +1,5 @@
-//! Written rules that decide nothing: without them, all together, the same is said of each path.
+//! Written rules that decide nothing: without them, all together, each path is answered the same. Use `redundant_rules`, and `example_of` for why
+//! one decides nothing; both take a limit, since there may be exponentially many kinds of paths.
 #![tactic(auto)]
 
 mod asking;

@@ -12,7 +12,7 @@ use crate::kinds::Kind;
 use crate::written::{NumberedRule, is_made_of, stays_named};
 use std::alloc::{AllocError, Global};
 
-// Whether a rule of a written rule is among some.
+// Whether one of some rules is a rule on files that was made of a written rule.
 fn speaks(number: usize, rules: &[NumberedRule<'_>]) -> bool
     ensures { result ≡ speaks number (map seen_numbered rules.now) }
 {
@@ -27,7 +27,7 @@ fn speaks(number: usize, rules: &[NumberedRule<'_>]) -> bool
     false
 }
 
-// Whether something else is said of the path of a kind without these written rules, of which this one was taken away last.
+// Whether the path of a kind is answered differently without these written rules, of which this one was taken away last.
 fn kind_changes(
     alloc: Global,
     audit: bool,
@@ -53,7 +53,7 @@ fn kind_changes(
     answers_change(alloc, compared)
 }
 
-// Whether something else is said of the path of one of some kinds.
+// Whether the path of one of some kinds is answered differently.
 fn some_kind_changes(
     alloc: Global,
     audit: bool,
@@ -76,7 +76,7 @@ fn some_kind_changes(
     Ok(false)
 }
 
-// Appends a written rule to those that are told, unless something else is said of a path without them all.
+// Appends a written rule to those that decide nothing, unless a path is answered differently without them all.
 fn push_unless(
     alloc: Global,
     audit: bool,
@@ -96,7 +96,7 @@ fn push_unless(
     Ok(())
 }
 
-// Whether a written rule can be told: a rule on files was made of it, and it isn't told yet.
+// Whether a written rule can be redundant: a rule on files was made of it, and it isn't in the result yet.
 fn can_be_told(rules: &[NumberedRule<'_>], told: &[usize], number: usize) -> bool
     ensures { result ≡ can_be_told (map seen_numbered rules.now) told.now number }
 {
@@ -121,7 +121,8 @@ fn try_one(
     Ok(())
 }
 
-/// Those of some written rules without which the same is said of the paths of these kinds: each of them, where those before it are gone that are told.
+/// Those of some written rules without which the paths of these kinds are answered the same: each of them, where those before it in the result are
+/// taken away.
 ///
 /// # Errors
 ///

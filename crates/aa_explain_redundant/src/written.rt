@@ -7,19 +7,19 @@ ghost use Rattle.aa_explain_redundant.specs.Seen.{seen_numbered, seen_written};
 use aa_profile_data::Rule;
 use std::alloc::{AllocError, Global};
 
-/// What a profile, a child or a hat says of files, lent, and of which written rules its rules were made.
+/// What a profile, a child or a hat has for files, lent, and of which written rules its rules were made.
 #[derive(Clone, Copy)]
 pub struct WrittenRules<'a> {
     /// Whether what each of the rules decides is logged.
     pub audit: bool,
     /// The rules, in the order of the file.
     pub rules: &'a [Rule],
-    /// For each of them the number of the written rule that it was made of: one written rule makes several, by variables and alternatives of their values.
-    /// A rule behind the last number was made of none that can be tried.
+    /// For each of them the number of the written rule of which it was made: one written rule makes several, by variables and their values. A rule
+    /// past the last number was made of none that can be tried.
     pub written: &'a [usize],
 }
 
-/// A rule, and the number of the written rule that it was made of.
+/// A rule, and the number of the written rule of which it was made.
 #[derive(Clone, Copy)]
 pub struct NumberedRule<'a> {
     /// The rule.
@@ -28,7 +28,7 @@ pub struct NumberedRule<'a> {
     pub written: Option<usize>,
 }
 
-// The number at a place.
+// The number at an index.
 fn number_at(written: &[usize], place: usize) -> Option<usize>
     ensures { result ≡ slice_get written.now place }
 {
@@ -38,7 +38,7 @@ fn number_at(written: &[usize], place: usize) -> Option<usize>
     }
 }
 
-/// Rules with the numbers of the written rules that they were made of.
+/// Rules with the numbers of the written rules of which they were made.
 ///
 /// # Errors
 ///
@@ -83,14 +83,14 @@ fn is_among(numbers: &[usize], number: Option<usize>) -> bool
     }
 }
 
-/// Whether a rule on files was made of one of some written rules. It takes no memory.
+/// Whether a rule is on files and was made of one of some written rules. It takes no memory.
 pub fn is_made_of(numbers: &[usize], one: NumberedRule<'_>) -> bool
     ensures { result ≡ is_made_of numbers.now (seen_numbered one.entry) }
 {
     is_file(one.rule) && is_among(numbers, one.written)
 }
 
-/// Whether a written rule isn't among those that are told. It takes no memory.
+/// Whether a written rule isn't in a list. It takes no memory.
 pub fn stays_named(told: &[usize], number: usize) -> bool
     ensures { result ≡ stays_named told.now number }
 {

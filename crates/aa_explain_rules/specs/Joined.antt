@@ -1,9 +1,9 @@
--- Requests, joined: what some ask for of one path together.
+-- Joined requests: what several requests need of one path together.
 use Rattle.std.specs.Prelude.{◌≡◌, true, ◌&&◌}
 use Rattle.aa_profile_data.specs.Access.{common, union}
 use Rattle.aa_profile_data.specs.Request.{ForFile, Request}
 
--- two requests, joined: of one path the letters of both, for the owner alone where both are the owner's; any other is the first
+-- two requests joined: for one path the letters of both, for the owner alone where both are the owner's; else the first
 abbrev pub joined : Request → Request → Request
 joined (ForFile needs owned path) (ForFile more other_owned other) = ForFile (union needs more) (owned && other_owned) path
 joined one _ = one

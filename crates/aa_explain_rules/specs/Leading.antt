@@ -1,4 +1,4 @@
--- Which rules decide where a program runs that is started (docs/policy.md, "The start of a program").
+-- Which rules decide under which profile a program runs when it is started (docs/policy.md, "The start of a program").
 use Rattle.std.specs.Prelude.{ℕ, Bool, false, if◌then◌else◌, List, [], ◌∷◌, Option, None, Some, slice_get}
 use Rattle.std.specs.List.{list_any}
 use Rattle.aa_decide_rules.specs.Choices.{Choice, Denied, Leads, Missing, denies, dominates}
@@ -22,7 +22,8 @@ some_says test owned path rules = list_any (says test false owned path) rules
 abbrev pub highest_that : (Rank → Bool) → Rank
 highest_that test = if test Plain then Plain else if test Loose then Loose else Last
 
--- The places of the rules that decide where the program runs: of those that lead with the highest rank, in their order. Where a rule denies, there are none.
+-- The indexes of the rules that decide under which profile the program runs: of those that lead with the highest rank, in their order. Where a rule
+-- denies, there are none.
 abbrev pub leading_places : Bool → List ℕ → List Rule → List ℕ
 leading_places owned path rules =
     if some_says denies owned path rules
@@ -34,11 +35,11 @@ abbrev pub transition_of : Rule → Option Transition
 transition_of (File rule) = rule.exec
 transition_of _ = None
 
--- that of the rule at a place
+-- the transition of the rule at an index
 abbrev pub transition_at : List Rule → ℕ → Option Transition
 transition_at rules place = elim (slice_get rules place) [ None ↦ None | Some rule ↦ transition_of rule ]
 
--- that of the rule at the first of some places
+-- the transition of the rule at the first of some indexes
 abbrev pub first_transition : List Rule → List ℕ → Option Transition
 first_transition rules [] = None
 first_transition rules (place ∷ places) = transition_at rules place

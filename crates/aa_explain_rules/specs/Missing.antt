@@ -1,4 +1,4 @@
--- The rule that a request lacks: the narrowest that lets what no rule allows of it.
+-- The rule that a request lacks: the narrowest that allows what no rule allows of it.
 use Rattle.std.specs.Prelude.{ℕ, ◌^◌, Bool, false, ◌&&◌, ◌==◌, nat_lt, if◌then◌else◌, List, Option, None, Some, is_ok}
 use Rattle.aa_glob.specs.Laws.{quoted}
 use Rattle.aa_glob_syntax.specs.Exactness.{is_exact}
@@ -17,23 +17,23 @@ use Rattle.aa_profile_data.specs.declared.profile.Transition.{Transition}
 use Rattle.aa_profile_data.specs.Kinds.{is_protocol}
 use Rattle.aa_decide_rules.specs.Verdict.{denied, missing}
 
--- The letters of a rule that lets some needs of a file. `w` lets `a` too, which can't stand beside it, and an exec word lets a program start.
+-- The letters of a rule that allows some needs of a file. `w` includes `a`, which can't be written beside it, and an exec word lets a program start.
 abbrev pub letters_for : ℕ → ℕ
 letters_for needs = if has needs WRITE then without (without needs EXEC) APPEND else without needs EXEC
 
--- a program runs under who starts it
+-- a program runs under the profile that starts it
 abbrev pub inherit : Transition
 inherit = record { word = Inherit; target = None }
 
--- the transition of such a rule, where it lets a program be started
+-- the transition of such a rule, where it allows the start of a program
 abbrev pub transition_for : ℕ → Option Transition
 transition_for needs = if has needs EXEC then Some inherit else None
 
--- its rank: plain, where it has an exec word and its pattern is exact
+-- the rank of such a rule: plain, where it has an exec word and its pattern is exact
 abbrev pub rank_for : List ℕ → ℕ → Rank
 rank_for pattern needs = if has needs EXEC && is_exact (items_of pattern) then Plain else Loose
 
--- a rule that lets some needs of a file, whose path alone is its pattern: for the owner alone where the file is owned
+-- a rule that allows some needs of a file, whose path alone is its pattern: for the owner alone where the file is owned
 abbrev pub file_rule_for : Bool → List ℕ → ℕ → FileRule
 file_rule_for owned path needs = record {
   pattern = quoted path;
@@ -46,21 +46,22 @@ file_rule_for owned path needs = record {
   audit = false;
 }
 
--- a rule that lets a capability, and one that lets sockets of a type in a domain
+-- a rule that allows a capability, and one that allows sockets of a type in a domain
 abbrev pub cap_rule_for : ℕ → CapRule
 cap_rule_for number = record { caps = 2 ^ number; deny = false; audit = false }
 
 abbrev pub net_rule_for : ℕ → ℕ → NetRule
 net_rule_for domain kind = record { domain = Some domain; kind = Some kind; deny = false; audit = false }
 
--- A rule that lets some needs of a request and nothing else. There is one for each path that can be written as a pattern, for each number that a set
--- of capabilities can have, and for each kind of sockets that is no protocol.
+-- A rule that allows some needs of a request and nothing else. There is one for each path that can be written as a pattern, for each number that a
+-- set of capabilities can have, and for each kind of sockets that is no protocol.
 abbrev pub rule_for : Request → ℕ → Option Rule
 rule_for (ForFile letters owned path) needs = if is_ok (reading (quoted path)) then Some (File (file_rule_for owned path needs)) else None
 rule_for (ForCapability number) needs = if nat_lt number 64 then Some (Cap (cap_rule_for number)) else None
 rule_for (ForSockets domain kind) needs = if is_protocol kind then None else Some (Net (net_rule_for domain kind))
 
--- What a request lacks: the needs that no rule denies or allows. Where one is denied that is nothing, since no rule more lets what another denies.
+-- What a request lacks: the needs that no rule denies or allows. Where one need is denied that is nothing, since no further rule allows what another
+-- denies.
 abbrev pub lacked : Request → List Rule → ℕ
 lacked request rules = if denied request rules == 0 then missing request rules else 0
 

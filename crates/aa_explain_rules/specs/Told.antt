@@ -1,4 +1,4 @@
--- The rules behind an answer: those that apply to a request, what each of them does, and the nearest ones of those that do nothing.
+-- The rules that decide an answer: those that apply to a request, what each of them does, and of those that don't apply the nearest ones.
 use Rattle.std.specs.Prelude.{ℕ, ◌+◌, Bool, false, not, ◌&&◌, ◌==◌, if◌then◌else◌, List, [], ◌∷◌}
 use Rattle.aa_glob_syntax.specs.Matching.{matches}
 use Rattle.aa_glob_syntax.specs.Reading.{items_of}
@@ -8,7 +8,7 @@ use Rattle.aa_profile_data.specs.declared.profile.Rule.TheVariants.{File}
 use Rattle.aa_decide_rules.specs.Verdict.{applies, covers, denies, is_audited}
 use Rattle.aa_explain_rules.specs.declared.told.ToldRule.{ToldRule}
 
--- what is told of a rule at a place that applies to a request. The flag says whether each rule of the profile is audited.
+-- the report on a rule at an index that applies to a request; the flag audits each rule of the profile
 abbrev pub told_rule : Bool → Request → ℕ → Rule → ToldRule
 told_rule flag request place rule = record {
   place = place;
@@ -17,7 +17,7 @@ told_rule flag request place rule = record {
   audited = is_audited flag rule;
 }
 
--- those of some rules that apply, in their order, where the first has this place
+-- the reports on those of some rules that apply, in their order, where the first rule has this index
 abbrev pub told_from : Bool → Request → ℕ → List Rule → List ToldRule
 told_from flag request first [] = []
 told_from flag request first (rule ∷ rules) =
@@ -25,24 +25,24 @@ told_from flag request first (rule ∷ rules) =
     then told_rule flag request first rule ∷ told_from flag request (first + 1) rules
     else told_from flag request (first + 1) rules
 
--- what is told of the rules that apply to a request
+-- the reports on the rules that apply to a request
 abbrev pub told : Bool → Request → List Rule → List ToldRule
 told flag request rules = told_from flag request 0 rules
 
--- an allow rule on files whose pattern matches the path that is asked for
+-- an allow rule on files whose pattern matches the requested path
 abbrev pub lets_at : Request → Rule → Bool
 lets_at (ForFile letters owned path) (File rule) = not rule.deny && matches (items_of rule.pattern) path
 lets_at _ _ = false
 
--- A rule is near: it lets something be done at the path, but nothing of what is asked for. Its letters are others, or it is the owner's alone.
+-- A rule is near: it allows something at the path, but none of the request's needs. Its letters are others, or it is the owner's alone.
 abbrev pub is_near : Request → Rule → Bool
 is_near request rule = lets_at request rule && covers request rule == 0
 
--- the places of those of some rules that pass a test, in their order, where the first has this place
+-- the indexes of those of some rules that pass a test, in their order, where the first rule has this index
 abbrev pub places_where : (Rule → Bool) → ℕ → List Rule → List ℕ
 places_where test first [] = []
 places_where test first (rule ∷ rules) = if test rule then first ∷ places_where test (first + 1) rules else places_where test (first + 1) rules
 
--- the places of the rules that are near a request
+-- the indexes of the rules that are near a request
 abbrev pub near : Request → List Rule → List ℕ
 near request rules = places_where (is_near request) 0 rules

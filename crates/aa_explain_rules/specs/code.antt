@@ -1,2 +1,2 @@
--- What is about the code: how rules are gone over at some of their places.
+-- Definitions about the code: how it goes over rules at some of their indexes.
 pub mod Among

@@ -1,4 +1,4 @@
-//! The rules that a request is asked of, and which of them concern it.
+//! The rules by which a request is decided, and which of them concern it.
 
 ghost use Rattle.std.specs.Prelude.{◌≡◌, IfOk};
 ghost use Rattle.aa_profile_data.specs.SeenRequests.{request_of};
@@ -9,17 +9,17 @@ use aa_decide_rules::applies;
 use aa_profile_data::{Request, Rule};
 use std::alloc::{AllocError, Global};
 
-/// The rules that a request is asked of.
+/// The rules by which a request is decided.
 #[derive(Clone, Copy)]
 pub enum AskedRules<'a> {
-    /// Rules of which nothing was made ready: each pattern is tried by itself.
+    /// Rules that weren't made ready: each pattern is matched by itself.
     Listed {
-        /// Whether each of them is audited, whatever its own words are: the flag of their profile.
+        /// Whether each of them is audited, whatever its qualifiers: the flag of their profile.
         audit: bool,
         /// The rules, in their order.
         rules: &'a [Rule],
     },
-    /// Those by which a loaded profile decides, or a child or hat of it: one automaton finds the patterns that match.
+    /// The rules of a loaded profile, or of a child or hat of it: one automaton finds the patterns that match.
     Loaded(ReadySection<'a>),
 }
 
@@ -35,7 +35,7 @@ fn concerns(request: &Request<'_>, rule: &Rule) -> bool
     }
 }
 
-// The places of those of some rules that concern a request. Each is tried by itself.
+// The places of those of some rules that concern a request. Each rule is tried by itself.
 fn concerned_listed(
     alloc: Global,
     rules: &[Rule],
@@ -56,7 +56,7 @@ fn concerned_listed(
     Ok(found)
 }
 
-// The places of those of a loaded profile, or of a child or hat of it, that concern a request.
+// The places of those rules of a loaded profile, or of a child or hat of it, that concern a request.
 fn concerned_loaded(
     alloc: Global,
     section: ReadySection<'_>,
@@ -72,7 +72,7 @@ fn concerned_loaded(
 }
 
 impl<'a> AskedRules<'a> {
-    /// The rules themselves, in their order.
+    /// The rules themselves, in their order. It takes no memory.
     pub fn as_slice(self) -> &'a [Rule]
         ensures { result.now ≡ rules_of self.entry }
     {
@@ -82,7 +82,7 @@ impl<'a> AskedRules<'a> {
         }
     }
 
-    /// Whether the flag of their profile audits each of them.
+    /// Whether the flag of their profile audits each of them. It takes no memory.
     pub fn audits(self) -> bool
         ensures { result ≡ audits_of self.entry }
     {
@@ -92,8 +92,8 @@ impl<'a> AskedRules<'a> {
         }
     }
 
-    /// The places of the rules that concern a request, in their order: those on files whose pattern matches the path that is asked for, whoever owns
-    /// the file, or those that cover the capability or the sockets. No other rule is behind its answer.
+    /// The places (indices) of the rules that concern a request, in their order: those on files whose pattern matches the path that is asked for,
+    /// whoever owns the file, or those that cover the capability or the sockets. No other rule takes part in its answer.
     ///
     /// # Errors
     ///

@@ -1,4 +1,4 @@
-//! Rules in the way of the one that a request lacks.
+//! Rules that conflict with the one that a request lacks.
 
 ghost use Rattle.std.specs.Prelude.{◌≡◌, IfOk, not};
 ghost use Rattle.aa_profile_data.specs.SeenRequests.{request_of};
@@ -14,14 +14,14 @@ use aa_profile_data::{ExecWord, Perms, Rank, Request, Rule, Transition};
 use bitflags::Flags;
 use std::alloc::{AllocError, Global};
 
-// Whether a transition leads elsewhere than under who starts a program.
+// Whether a transition leads elsewhere than to the profile that starts the program.
 fn leads_away(transition: &Transition) -> bool
     ensures { result ≡ not (same_transition transition.now inherit) }
 {
     !(transition.word.is_same(ExecWord::Inherit) && transition.target.is_none())
 }
 
-// Whether a rule leads the program of a path there, with the rank of a plain pattern.
+// Whether a rule leads the program of a path elsewhere, with the rank of a plain pattern.
 fn leads_elsewhere(path: &[u8], rule: &Rule) -> bool
     ensures { result ≡ leads_elsewhere path.now rule.now }
 {
@@ -39,7 +39,7 @@ fn leads_elsewhere(path: &[u8], rule: &Rule) -> bool
     }
 }
 
-// Whether a rule is in the way of one that lets some needs of a request.
+// Whether a rule conflicts with one that allows some needs of a request.
 fn is_in_the_way(request: &Request<'_>, needs: Perms, rule: &Rule) -> bool
     ensures { result ≡ is_in_the_way (request_of request.entry.now) needs.0 rule.now }
 {
@@ -50,7 +50,7 @@ fn is_in_the_way(request: &Request<'_>, needs: Perms, rule: &Rule) -> bool
     }
 }
 
-// Whether the rule at a place is.
+// Whether the rule at a place conflicts with one that allows some needs of a request.
 fn is_in_the_way_at(request: &Request<'_>, needs: Perms, rules: &[Rule], place: usize) -> bool
     ensures { result ≡ passes_at (is_in_the_way (request_of request.entry.now) needs.0) rules.now place }
 {
@@ -60,7 +60,7 @@ fn is_in_the_way_at(request: &Request<'_>, needs: Perms, rules: &[Rule], place: 
     }
 }
 
-// Those of some places whose rules are.
+// Those of some places whose rules conflict with one that allows some needs of a request.
 fn in_the_way_among(
     alloc: Global,
     request: &Request<'_>,
@@ -81,9 +81,9 @@ fn in_the_way_among(
     Ok(found)
 }
 
-/// The places of the rules in the way of the one that a request lacks (`missing_rule`), in their order: those that lead the program of its path elsewhere
-/// than under who starts it, with the rank of a plain pattern. A profile that had one of them and the missing rule too would be refused, since these
-/// conflict (docs/policy.md, "Rules that conflict"). None where the start of a program isn't missing.
+/// The places of the rules that conflict with the one that a request lacks (`missing_rule`), in their order: those that lead the program of its path
+/// elsewhere than to the profile that starts it, with the rank of a plain pattern. A profile that had one of them and the missing rule too would be
+/// refused (docs/policy.md, "Rules that conflict"). Empty where the start of a program isn't missing.
 ///
 /// # Errors
 ///

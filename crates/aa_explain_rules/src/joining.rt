@@ -7,8 +7,8 @@ ghost use Rattle.aa_explain_rules.specs.Joined.{joined};
 use aa_profile_data::Request;
 use bitflags::Flags;
 
-/// Two requests, joined. Where both are on files, of which the path should be one, that is a request for the letters of both, which is the owner's where
-/// both are; any other is taken to be the same, and is the first.
+/// Two requests, joined into one. Where both are for files, which should have one path, it is a request for the letters of both, owned where both
+/// are; any two others are taken to be the same, and the result is the first. It takes no memory.
 pub fn joined<'a>(one: &Request<'a>, other: &Request<'_>) -> Request<'a>
     ensures { request_of result ≡ joined (request_of one.entry.now) (request_of other.entry.now) }
 {

@@ -1,4 +1,4 @@
-//! What holds of joined requests, as a law over the definitions that the calls are proved to follow.
+//! Properties of joined requests, as laws over the definitions that the calls are proved to follow.
 
 ghost use Rattle.std.specs.Prelude.{◌++◌, ◌≡◌, ◌≢◌, Bool, List, Some, false};
 ghost use Rattle.std.specs.List.{All, Contains};
@@ -12,10 +12,10 @@ ghost use Rattle.aa_explain_rules.specs.Missing.{lacked, missing_rule};
 
 use crate::laws::what_a_missing_rule_lets;
 
-/// What one rule lets, of requests that are joined. Each of two about one thing is within the two joined, and what is within one of these is within the
-/// whole. No rule denies something of the two joined where none does of either; and where a request lacks something, so does what it is within. Then the
-/// rule that this lacks lets each request that is within it and of which no rule denies something: with that rule among others that let something, behind
-/// those that there are, it is allowed.
+/// What one rule allows, of requests that are joined. Each of two requests about one thing is within the two joined, and what is within one of these
+/// is within the whole. No rule denies something of the two joined where none denies something of either; and where a request lacks something, so
+/// does the one that it is within. Then the rule that the whole lacks allows each request that is within it and of which no rule denies something:
+/// where that rule, among others that allow something, follows the rules that there are, the request is allowed.
 pub fn what_joined_requests_let()
     ensures first_is_within { (one other : Request) → AreOfOneThing one other → IsWithin one (joined one other) }
     ensures second_is_within { (one other : Request) → AreOfOneThing one other → IsWithin other (joined one other) }
@@ -34,7 +34,7 @@ pub fn what_joined_requests_let()
     what_a_missing_rule_lets();
 }
 
-/// Rules that allow a request by themselves let it behind others too, of which none denies something of it.
+/// Rules that allow a request by themselves allow it also after other rules, none of which denies something of it.
 pub fn what_further_rules_let()
     ensures { (mediation other : Mediation) (flag loud : Bool) (request : Request) (rules further : List Rule)
         → denied request rules ≡ 0 → (verdict other loud further request).answer ≡ Allow

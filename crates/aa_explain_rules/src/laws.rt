@@ -1,5 +1,5 @@
-//! What holds of the rules behind an answer, and of those that decide where a program runs, as laws over the definitions that the calls are proved to
-//! follow.
+//! Properties of the rules that decide an answer, and of those that decide where a program runs, as laws over the definitions that the calls are
+//! proved to follow.
 
 ghost use Rattle.std.specs.Prelude.{◌++◌, ◌<◌, ◌==◌, ◌∷◌, ◌≡◌, ◌≢◌, ◌||◌, ◌↔◌, ◌^◌, [], All, Bool, List, Some, false, is_some, not, true, ℕ};
 ghost use Rattle.std.specs.List.{list_any};
@@ -31,7 +31,7 @@ ghost use Rattle.aa_explain_rules.specs.Told.{is_near, near, places_where, told}
 use aa_glob::{quoted_text_matches_itself, quoted_text_reads_as_itself};
 use aa_profile_data::how_conflicts_are_tested;
 
-/// The rules that are told are exactly those that apply, and those that are told to be near are exactly those that are, in rising order.
+/// The rules that are reported are exactly those that apply, and those that are reported as near are exactly those that are, in rising order.
 pub fn what_is_told()
     ensures told_are_those_that_apply { (flag : Bool) (request : Request) (rules : List Rule)
         → AreAllWith (applies request) rules (places_of (told flag request rules)) }
@@ -40,8 +40,8 @@ pub fn what_is_told()
     ensures near_rise { (request : Request) (rules : List Rule) → IsStrictlyIncreasing (near request rules) }
 {}
 
-/// The rules that are told decide alone: by them the verdict is the same. Without those that are told to deny nothing is denied, and without those
-/// that are told to allow nothing is allowed.
+/// The reported rules decide alone: by them the verdict is the same. Without those that are reported to deny nothing is denied, and without those
+/// that are reported to allow nothing is allowed.
 pub fn what_told_rules_decide()
     ensures told_rules_decide_alone { (mediation : Mediation) (flag : Bool) (request : Request) (rules : List Rule)
         → verdict mediation flag (picked rules (places_of (told flag request rules))) request ≡ verdict mediation flag rules request }
@@ -51,8 +51,8 @@ pub fn what_told_rules_decide()
         → allowed request (but (is_told_to_allow request) rules) ≡ 0 }
 {}
 
-/// The rule that a request lacks lets it: with that rule behind the others, it is allowed. There is one wherever a request lacks something: for each
-/// path whose pattern isn't too long, each capability and each kind of sockets that can be asked for.
+/// The rule that a request lacks allows it: with that rule after the others, it is allowed. There is one wherever a request lacks something: for
+/// each path whose pattern isn't too long, each capability and each type of sockets that can be asked for.
 pub fn what_a_missing_rule_lets()
     ensures it_lets_the_request { (mediation : Mediation) (flag : Bool) (request : Request) (rules : List Rule) (rule : Rule)
         → missing_rule request rules ≡ Some rule
@@ -69,8 +69,8 @@ pub fn what_a_missing_rule_lets()
     quoted_text_matches_itself();
 }
 
-/// Where a request lacks `x`, the rule that it lacks leads the program of its path, behind the others, to run under who starts it. With that rule
-/// without its exec word no rule says where to go. The flag says whether each rule of the profile is audited.
+/// Where a request lacks `x`, the rule that it lacks, after the others, leads the program of its path to run under the profile that starts it. With
+/// that rule without its exec word no rule says where to go. The flag says whether each rule of the profile is audited.
 pub fn where_a_missing_rule_leads()
     ensures to_who_starts_it { (letters : ℕ) (owned : Bool) (path : List ℕ) (rules : List Rule) (rule : Rule) (flag : Bool)
         → missing_rule (ForFile letters owned path) rules ≡ Some rule
@@ -84,9 +84,9 @@ pub fn where_a_missing_rule_leads()
     quoted_text_matches_itself();
 }
 
-/// The rule that a request lacks is the narrowest: as the rules are, the request isn't allowed; behind them no rule allows it that doesn't cover all that
-/// it lacks; and the missing rule on a file doesn't without any one of its letters, of which `x` is its exec word. A rule on a capability or on sockets
-/// has one need alone, without which it says nothing.
+/// The rule that a request lacks is the narrowest: as the rules are, the request isn't allowed; after them no rule allows it that doesn't cover all
+/// that it lacks; and the missing rule on a file doesn't allow it without any one of its letters, of which `x` is its exec word. A rule on a
+/// capability or on sockets has one need alone, without which it says nothing.
 pub fn how_narrow_a_missing_rule_is()
     ensures not_allowed_without_it { (mediation : Mediation) (flag : Bool) (request : Request) (rules : List Rule) (rule : Rule)
         → missing_rule request rules ≡ Some rule
@@ -101,9 +101,9 @@ pub fn how_narrow_a_missing_rule_is()
         → (verdict mediation flag (rules ++ File (but_letter letter rule) ∷ []) (ForFile letters owned path)).answer ≢ Allow }
 {}
 
-/// A rule is in the way of the one that a request lacks exactly where the two conflict: some path matches both, and they lead its program to different
-/// places, with one rank. So where no rule is in the way, a profile whose rules agree is no more refused with the missing rule behind them than it was. The
-/// path is a list of bytes.
+/// A rule is reported as conflicting with the one that a request lacks exactly where the two conflict: some path matches both, and they lead its
+/// program to different profiles, with one rank. So where there is no such rule, a profile whose rules agree isn't refused with the missing rule
+/// after them either. The path is a list of bytes.
 pub fn what_is_in_the_way()
     ensures those_that_conflict { (letters : ℕ) (owned : Bool) (path : List ℕ) (rules : List Rule) (own rule : Rule)
         → missing_rule (ForFile letters owned path) rules ≡ Some own → All (λ b. b < 2 ^ 8) path
@@ -117,8 +117,8 @@ pub fn what_is_in_the_way()
     how_conflicts_are_tested();
 }
 
-/// An answer is logged exactly where something of the request is missing, or a rule that is told as audited covers something of it: one that denies,
-/// where something is denied, and else one that allows.
+/// An answer is logged exactly where something of the request is missing, or a rule that is reported as audited covers something of it: one that
+/// denies, where something is denied, and else one that allows.
 pub fn what_is_logged()
     ensures { (mediation : Mediation) (flag : Bool) (request : Request) (rules : List Rule)
         → is_some (verdict mediation flag rules request).tag ≡ (not (missing request rules == 0) || some_is_logged (told flag request rules)) }

@@ -1,4 +1,4 @@
-//! The rules that decide where a program runs that is started.
+//! The rules that decide under which profile a program runs that is started.
 
 ghost use Rattle.std.specs.Prelude.{◌≡◌, IfOk, false};
 ghost use Rattle.aa_decide_rules.specs.Choices.{denies, dominates};
@@ -28,7 +28,7 @@ fn denies(owned: bool, path: &[u8], rule: &Rule) -> bool
     }
 }
 
-// Whether a rule leads it somewhere with this rank. Those that do so with the highest one decide where to go.
+// Whether a rule leads the program of a path somewhere with this rank. Those that do so with the highest rank decide where it runs.
 fn dominates(rank: Rank, owned: bool, path: &[u8], rule: &Rule) -> bool
     ensures { result ≡ says (dominates rank) false owned path.now rule.now }
 {
@@ -43,7 +43,7 @@ fn dominates(rank: Rank, owned: bool, path: &[u8], rule: &Rule) -> bool
     }
 }
 
-// Whether the rule at a place denies it.
+// Whether the rule at a place denies the start of the program of a path.
 fn denies_at(owned: bool, path: &[u8], rules: &[Rule], place: usize) -> bool
     ensures { result ≡ passes_at (says denies false owned path.now) rules.now place }
 {
@@ -53,7 +53,7 @@ fn denies_at(owned: bool, path: &[u8], rules: &[Rule], place: usize) -> bool
     }
 }
 
-// Whether the rule at a place leads it somewhere with this rank.
+// Whether the rule at a place leads the program of a path somewhere with this rank.
 fn dominates_at(rank: Rank, owned: bool, path: &[u8], rules: &[Rule], place: usize) -> bool
     ensures { result ≡ passes_at (says (dominates rank) false owned path.now) rules.now place }
 {
@@ -63,7 +63,7 @@ fn dominates_at(rank: Rank, owned: bool, path: &[u8], rules: &[Rule], place: usi
     }
 }
 
-// Whether a rule at some places denies it.
+// Whether a rule at some places denies the start of the program of a path.
 fn some_denies(owned: bool, path: &[u8], rules: &[Rule], places: &[usize]) -> bool
     ensures { result ≡ some_among (says denies false owned path.now) rules.now places.now }
 {
@@ -77,7 +77,7 @@ fn some_denies(owned: bool, path: &[u8], rules: &[Rule], places: &[usize]) -> bo
     false
 }
 
-// Whether a rule at some places leads it somewhere with this rank.
+// Whether a rule at some places leads the program of a path somewhere with this rank.
 fn some_dominates(rank: Rank, owned: bool, path: &[u8], rules: &[Rule], places: &[usize]) -> bool
     ensures { result ≡ some_among (says (dominates rank) false owned path.now) rules.now places.now }
 {
@@ -91,7 +91,7 @@ fn some_dominates(rank: Rank, owned: bool, path: &[u8], rules: &[Rule], places: 
     false
 }
 
-// The highest rank with which a rule at some places leads it somewhere, and the last where none does.
+// The highest rank with which a rule at some places leads the program of a path somewhere; the lowest where none does.
 fn highest(owned: bool, path: &[u8], rules: &[Rule], places: &[usize]) -> Rank
     ensures { result ≡ highest_that (λ rank. some_among (says (dominates rank) false owned path.now) rules.now places.now) }
 {
@@ -104,7 +104,7 @@ fn highest(owned: bool, path: &[u8], rules: &[Rule], places: &[usize]) -> Rank
     }
 }
 
-// Those of some places whose rules lead it somewhere with this rank.
+// Those of some places whose rules lead the program of a path somewhere with this rank.
 fn dominating(
     alloc: Global,
     rank: Rank,
@@ -126,9 +126,9 @@ fn dominating(
     Ok(found)
 }
 
-/// The places of the rules that decide where the program of a path runs that is started (docs/policy.md, "The start of a program"), in their order:
-/// of those with an exec word that apply, the ones of the highest rank. None where a deny rule with `x` applies. `owned` says whether the task's user
-/// owns the file.
+/// The places (indices) of the rules that decide under which profile the program of a path runs that is started (docs/policy.md, "The start of a
+/// program"), in their order: of those with an exec word that apply, the ones of the highest rank. Empty where a deny rule with `x` applies. `owned`
+/// says whether the task's user owns the file.
 ///
 /// # Errors
 ///

@@ -1,5 +1,6 @@
-//! The rules behind the answer to a request: those that apply, those that are near, the one that is missing, and those that decide where a program runs; and
-//! requests for one path, joined, with the one rule that they lack. What is found are values; no text is made of them here.
+//! The rules that decide a request: those that apply, those that are near, the one that is missing, and those that decide under which profile a
+//! program runs; and requests for one path, joined, with the one rule that they lack. Results are values; no text is made of them here. `aa_explain`
+//! passes on what most callers need.
 #![tactic(auto)]
 
 mod asked;

@@ -18,7 +18,7 @@ use aa_profile_data::{
 use bitflags::Flags;
 use std::alloc::{AllocError, Global};
 
-// Whether a byte stands for itself in a pattern only behind a backslash.
+// Whether a byte stands for itself in a pattern only after a backslash.
 fn needs_backslash(byte: u8) -> bool
     ensures { result ≡ needs_backslash byte }
 {
@@ -41,7 +41,7 @@ fn quoted(alloc: Global, path: &[u8]) -> Result<Vec<u8>, AllocError>
     Ok(text)
 }
 
-// The letters of a rule that lets some needs of a file.
+// The letters of a rule that allows some needs of a file.
 fn letters_for(needs: Perms) -> Perms
     ensures { result.0 ≡ letters_for needs.0 }
 {
@@ -53,7 +53,7 @@ fn letters_for(needs: Perms) -> Perms
     }
 }
 
-// The exec word of such a rule, where a program is to start.
+// The exec word of a rule that allows some needs of a file, where a program is to start.
 fn transition_for(needs: Perms) -> Option<Transition>
     ensures { result ≡ transition_for needs.0 }
 {
@@ -67,7 +67,7 @@ fn transition_for(needs: Perms) -> Option<Transition>
     }
 }
 
-// The rank of such a rule.
+// The rank of a rule that allows some needs of a file.
 fn rank_for(pattern: &Pattern, needs: Perms) -> Rank
     ensures { result ≡ rank_for pattern.now needs.0 }
 {
@@ -78,7 +78,7 @@ fn rank_for(pattern: &Pattern, needs: Perms) -> Rank
     }
 }
 
-// A rule that lets some needs of a file, of which this is the pattern.
+// A rule that allows some needs of a file, of which this is the pattern.
 fn file_rule_for(pattern: Pattern, owned: bool, needs: Perms) -> Rule
     ensures { (path : List ℕ) → pattern ≡ quoted path → result ≡ ForFiles (file_rule_for owned path needs.0) }
 {
@@ -95,7 +95,7 @@ fn file_rule_for(pattern: Pattern, owned: bool, needs: Perms) -> Rule
     })
 }
 
-// A rule that lets some needs of a file, where its path can be written as a pattern.
+// A rule that allows some needs of a file, where its path can be written as a pattern.
 fn rule_for_file(
     alloc: Global,
     letters: Perms,
@@ -119,7 +119,7 @@ fn set_of(number: u8) -> u64
     1 << number
 }
 
-// A rule that lets some needs of a request and nothing else, where there is one.
+// A rule that allows some needs of a request and nothing else, where there is one.
 fn rule_for(
     alloc: Global,
     request: &Request<'_>,
@@ -179,9 +179,10 @@ pub fn lacked(request: &Request<'_>, rules: &[Rule], places: &[usize]) -> Perms
     }
 }
 
-/// The rule that a request lacks: the narrowest that lets what no rule allows of it, with which it is allowed. It is about the one path, capability or
-/// kind of sockets that is asked for; one on a file is the owner's where the file is owned, and lets a program start by `ix`. There is none where nothing
-/// is missing, where a rule denies something of the request, and where the path can't be written as a pattern of at most 4,096 bytes.
+/// Returns the rule that a request lacks: the narrowest that allows what no rule allows of it, so that with it the request is allowed. It is about
+/// the one path, capability or type of sockets that is asked for; a rule on a file has `owner` where the file is owned, and allows a program to
+/// start by `ix`. `None` where nothing is missing, where a rule denies something of the request, and where the path can't be written as a pattern of
+/// at most 4,096 bytes.
 ///
 /// # Errors
 ///

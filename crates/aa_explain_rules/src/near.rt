@@ -18,7 +18,7 @@ fn lets_at(request: &Request<'_>, rule: &Rule) -> bool
     }
 }
 
-/// Whether a rule lets something be done at the path that is asked for, but nothing of what is asked for.
+/// Whether a rule allows something at the path that is asked for, but nothing of what is asked for. It takes no memory.
 pub fn is_near(request: &Request<'_>, rule: &Rule) -> bool
     ensures { result ≡ is_near (request_of request.entry.now) rule.now }
 {

@@ -12,7 +12,7 @@ use aa_profile_data::{Perms, Request, Rule};
 use bitflags::Flags;
 use std::alloc::{AllocError, Global};
 
-// The same request, of a file that is read, too.
+// The request, for reading the file as well.
 fn with_reading<'a>(request: &Request<'a>) -> Request<'a>
     ensures { request_of result ≡ with_reading (request_of request.entry.now) }
 {
@@ -42,7 +42,7 @@ fn lacked_by(
     Ok(lacked(request, rules.as_slice(), &places))
 }
 
-// Whether a request lacks the start of a program, and, where that is a script, reading for which it doesn't ask.
+// Whether a request lacks the start of a program, and lacks reading it, for which it doesn't ask, as a script would need.
 fn lacks_reading(
     alloc: Global,
     rules: AskedRules<'_>,
@@ -58,9 +58,9 @@ fn lacks_reading(
     Ok(more.contains(Perms::READ))
 }
 
-/// The rule that a request lacks where what it starts is a script, if that is another one than `missing_rule` gives: the interpreter of a script reads it,
-/// under who starts it, so the rule lets it be read, too. None where the start of a program isn't missing, where reading is let or asked for already, and
-/// where a rule denies that.
+/// The rule that a request lacks where the program that it starts is a script, if that differs from `missing_rule`: the interpreter of a script
+/// reads it, under the profile that starts it, so this rule allows reading as well. `None` where the start of a program isn't missing, where reading
+/// is allowed or asked for already, and where a rule denies it.
 ///
 /// # Errors
 ///

@@ -15,17 +15,17 @@ use std::alloc::{AllocError, Global};
 /// What a rule does that applies to a request.
 #[derive(Clone, Copy, Debug, PartialEq, Eq)]
 pub struct ToldRule {
-    /// Its place among the rules, from 0.
+    /// Its place (index) among the rules, from 0.
     pub place: usize,
     /// Whether it denies what it covers; else it allows that.
     pub denies: bool,
-    /// What it covers of what is asked for: letters of a file, or of any other request its one need.
+    /// What it covers of what is asked for: letters of a file, or the only need of any other request.
     pub covered: Perms,
-    /// Whether what it does is logged, by a word of its own or by the flag of its profile.
+    /// Whether what it does is logged, by its own qualifier or by the flag of its profile.
     pub audited: bool,
 }
 
-// What is told of a rule at a place.
+// What the rule at a place does.
 fn told_rule(audit: bool, request: &Request<'_>, place: usize, rule: &Rule) -> ToldRule
     ensures { result ≡ told_rule audit (request_of request.entry.now) place rule.now }
 {
@@ -37,7 +37,7 @@ fn told_rule(audit: bool, request: &Request<'_>, place: usize, rule: &Rule) -> T
     }
 }
 
-// What is told of the rule at a place, if it applies to a request.
+// What the rule at a place does, if it applies to a request.
 fn told_at(audit: bool, request: &Request<'_>, rules: &[Rule], place: usize) -> Option<ToldRule>
     ensures { result ≡ told_at audit (request_of request.entry.now) rules.now place }
 {
@@ -53,7 +53,7 @@ fn told_at(audit: bool, request: &Request<'_>, rules: &[Rule], place: usize) -> 
     }
 }
 
-// What is told of the rules at some places that apply to a request.
+// What the rules at some places do that apply to a request.
 fn told_among(
     alloc: Global,
     audit: bool,
@@ -74,7 +74,8 @@ fn told_among(
     Ok(found)
 }
 
-/// The rules that apply to a request, and what each of them does, in their order: those by which `aa_decide_ready::ReadySection::decide` answers it.
+/// Returns the rules that apply to a request, and what each of them does, in their order: those by which `aa_decide_ready::ReadySection::decide`
+/// answers it.
 ///
 /// # Errors
 ///
@@ -120,8 +121,8 @@ fn near_among(
     Ok(found)
 }
 
-/// The places of the rules that are near a request for a file, in their order: allow rules whose pattern matches the path, and which let nothing of
-/// what is asked for, since their letters are others, or since they are the owner's alone. No rule is near any other request.
+/// The places (indices) of the rules that are near a request for a file, in their order: allow rules whose pattern matches the path, and which allow
+/// nothing of what is asked for, because of their letters, or because they have `owner`. No rule is near any other request.
 ///
 /// # Errors
 ///

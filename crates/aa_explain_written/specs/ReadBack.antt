@@ -1,4 +1,4 @@
--- What the laws on written rules speak of: files with such a rule, and what is read of them.
+-- Definitions for the laws on written rules: files with such a rule, and what is read of them.
 use Rattle.std.specs.Prelude.{◌≡◌, ◌≤◌, ℕ, Bool, true, false, not, ◌&&◌, List, [], ◌∷◌, ◌++◌, codes, length, Some}
 use Rattle.std.specs.List.{list_all}
 use Rattle.aa_bytes.specs.Bytes.{closing_brace, is_blank}
@@ -28,7 +28,7 @@ IsOfOne (Other rule) = Unit {0}
 abbrev pub in_profile : List ℕ → List ℕ → List ℕ → List ℕ
 in_profile before text after = codes "profile p {" ++ before ++ text ++ after ++ closing_brace ∷ []
 
--- A file of this name is handed in, not too big, of one profile that has this text in its block, between blanks alone.
+-- A file of this name is handed in, not too big, of one profile whose block holds this text between blanks alone.
 pub record HasFileOf (files : List HandedIn) (name text : List ℕ) : Type 0 where
   pub before : List ℕ
   pub after : List ℕ
@@ -37,7 +37,7 @@ pub record HasFileOf (files : List HandedIn) (name text : List ℕ) : Type 0 whe
   pub bytes : bytes_of files name ≡ Some (in_profile before text after)
   pub fits : length (in_profile before text after) ≤ most_bytes
 
--- a rule as it is read: its pattern has the backslashes that it needs between quotes
+-- a rule as it is read: its pattern has the backslashes that it needs in quotes
 abbrev pub as_read : Rule → Rule
 as_read (File rule) = File (record rule { pattern = between_quotes rule.pattern })
 as_read (Cap rule) = Cap rule
@@ -48,7 +48,7 @@ as_read (Other rule) = Other rule
 abbrev pub profile_of_one : Rule → Profile
 profile_of_one rule = record { name = codes "p"; attachments = []; audit = false; mode = Enforce; rules = rule ∷ []; children = [] }
 
--- no byte of a path, behind another, needs a backslash only between quotes
+-- no byte of a path, after another, needs a backslash only in quotes
 abbrev pub needs_none_behind : ℕ → List ℕ → Bool
 needs_none_behind before [] = true
 needs_none_behind before (b ∷ bs) = not (needs_escape before b) && needs_none_behind b bs

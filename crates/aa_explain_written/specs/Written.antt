@@ -26,11 +26,11 @@ abbrev pub word_text : Option Transition → List ℕ
 word_text None = []
 word_text (Some transition) = (row transition.word).text
 
--- the access of a rule on files: its letters, and behind them its exec word
+-- the access of a rule on files: its letters, followed by its exec word
 abbrev pub access_text : FileRule → List ℕ
 access_text rule = letters_of rule.access.0 ++ word_text rule.exec
 
--- the word before a rule that is about the owner's files alone
+-- the qualifier of a rule that is about the owner's files alone
 abbrev pub owner_text : Bool → List ℕ
 owner_text owner = if owner then codes "owner " else []
 
@@ -38,17 +38,17 @@ owner_text owner = if owner then codes "owner " else []
 abbrev pub file_text : FileRule → List ℕ
 file_text rule = owner_text rule.owner ++ codes "file " ++ quote ∷ between_quotes rule.pattern ++ quote ∷ space ∷ access_text rule ++ comma ∷ []
 
--- a program runs under who starts it, where a rule has an exec word
+-- a program runs under the profile that starts it, where a rule has an exec word
 abbrev pub is_inherited : Option Transition → Bool
 is_inherited None = true
 is_inherited (Some transition) = same_word transition.word Inherit && is_none transition.target
 
--- a rule lets something by letters that requests ask for, where `w` and `a` don't stand together, or by an exec word
+-- a rule allows something by letters that requests need, where `w` and `a` aren't written together, or by an exec word
 abbrev pub has_access : FileRule → Bool
 has_access rule =
     nat_lt rule.access.0 asked_letters && not (has rule.access.0 WRITE && has rule.access.0 APPEND) && not (rule.access.0 == 0 && is_none rule.exec)
 
--- it says what it lets by its letters and by `ix` alone
+-- the rule says what it allows by its letters and by `ix` alone
 abbrev pub has_no_more : FileRule → Bool
 has_no_more rule = not (rule.deny || rule.audit) && is_none rule.link && is_inherited rule.exec
 
@@ -56,40 +56,40 @@ has_no_more rule = not (rule.deny || rule.audit) && is_none rule.link && is_inhe
 abbrev pub rank_of_one : FileRule → Rank
 rank_of_one rule = if is_some rule.exec then Plain else Loose
 
--- it lets something of one path alone
+-- a rule allows something of one path alone
 abbrev pub lets_of_one : FileRule → Bool
 lets_of_one rule = has_no_more rule && has_access rule && same_rank rule.rank (rank_of_one rule) && is_exact (items_of rule.pattern)
 
--- a rule on files is written that does, if its pattern can stand between quotes
+-- a rule on files is written that does so, if its pattern can be written in quotes
 abbrev pub is_file_written : FileRule → Bool
 is_file_written rule = lets_of_one rule && fits_quotes (between_quotes rule.pattern)
 
 abbrev pub written_file : FileRule → Option (List ℕ)
 written_file rule = if is_file_written rule then Some (file_text rule) else None
 
--- the name of the one capability that a set has, among names of which the first stands at this number
+-- the name of the one capability that a set has, among names of which the first has this number
 abbrev pub name_of_one : ℕ → ℕ → List (List ℕ) → Option (List ℕ)
 name_of_one set number [] = None
 name_of_one set number (name ∷ names) = if set == 2 ^ number then Some name else name_of_one set (number + 1) names
 
--- a rule on capabilities is written that lets one
+-- a rule on capabilities is written that allows one
 abbrev pub written_capability : CapRule → Option (List ℕ)
 written_capability rule =
     if rule.deny || rule.audit then None else
     option_map (λ name. codes "capability " ++ name ++ comma ∷ []) (name_of_one rule.caps 0 names)
 
--- the name of a type, where it is one
+-- the name of a socket type, where it is one
 abbrev pub type_name : ℕ → Option (List ℕ)
 type_name kind = if is_protocol kind then None else kind_name kind
 
--- a rule on sockets is written that lets those of one type in one domain
+-- a rule on sockets is written that allows those of one type in one domain
 abbrev pub written_network : NetRule → Option (List ℕ)
 written_network rule =
     if rule.deny || rule.audit then None else
     option_and_then (λ domain. option_map (λ kind. codes "network " ++ domain ++ space ∷ kind ++ comma ∷ []) (option_and_then type_name rule.kind))
     (option_and_then domain_name rule.domain)
 
--- a rule as a profile's file writes it, if it is one of those
+-- a rule as a profile's file writes it, if it is one of those above
 abbrev pub written_rule : Rule → Option (List ℕ)
 written_rule (File rule) = written_file rule
 written_rule (Cap rule) = written_capability rule

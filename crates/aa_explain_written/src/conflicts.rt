@@ -30,7 +30,7 @@ fn leading_rule(alloc: Global, pattern: &Pattern, word: ExecWord) -> Result<Rule
     }))
 }
 
-// Whether some path matches two patterns: two rules on them conflict that lead to different places.
+// Whether some path matches two patterns, by whether two rules on them conflict that lead to different profiles.
 fn overlap(alloc: Global, one: &Pattern, other: &Pattern) -> Result<bool, AllocError>
     ensures { IfOk result (λ found. found ≡ overlaps one.now other.now) }
 {
@@ -56,8 +56,8 @@ fn file_rules_conflict(alloc: Global, one: &FileRule, other: &FileRule) -> Resul
     overlap(alloc, &one.pattern, &other.pattern)
 }
 
-/// Whether two rules conflict: both are allow rules on files with an exec word, with one rank, they lead to different places, and some path matches
-/// both.
+/// Whether two rules conflict: both are allow rules on files with an exec word, with one rank, they lead to different profiles, and some path
+/// matches both.
 ///
 /// # Errors
 ///

@@ -1,4 +1,4 @@
-//! The rule before the one for which a file is refused, with which that conflicts.
+//! The rule with which the one conflicts for which a file is refused, and which comes before it.
 
 ghost use Rattle.std.specs.Prelude.{◌≡◌, Some, Err, IfOk, true, false, map};
 ghost use Rattle.std.specs.List.{list_any};
@@ -19,7 +19,7 @@ use aa_text_tokens::{Spliced, spliced};
 use aa_text_variables::{ExpansionTable, Variables, what_a_text_leads_to};
 use std::alloc::{AllocError, Global};
 
-// The place of a refusal, if that is one for rules that conflict.
+// The place of a refusal, if it is one for rules that conflict.
 fn place_of_conflict(error: ProfileError) -> Option<Place>
     ensures { result ≡ place_of_conflict error.refusal error.place }
 {
@@ -29,7 +29,7 @@ fn place_of_conflict(error: ProfileError) -> Option<Place>
     }
 }
 
-// The place of the rule of a file as it is written, with its variables and the tokens of its patterns.
+// The place of the earlier rule of a file as it is written, with its variables and the tokens of its patterns.
 fn earlier_with(
     alloc: Global,
     language: Language,
@@ -49,7 +49,7 @@ fn earlier_with(
     Ok(earlier_in_profiles(alloc, place, &profiles, &places)?)
 }
 
-// That of a file as it is written, which is refused there.
+// The place of the earlier rule of a file as it is written, which is refused at `place`.
 fn earlier_in(
     alloc: Global,
     language: Language,
@@ -66,7 +66,7 @@ fn earlier_in(
     earlier_with(alloc, language, &variables, &patterns, file, place)
 }
 
-// That of a file that is refused there.
+// The place of the earlier rule of a file that is refused at `place`.
 fn earlier_in_file(
     alloc: Global,
     language: Language,
@@ -82,12 +82,12 @@ fn earlier_in_file(
     earlier_in(alloc, language, &file, place)
 }
 
-/// The place of the first rule before the one for which a file is refused, with which that conflicts (docs/policy.md, "Rules that conflict"): both are
-/// rules of one profile, child or hat. It is a byte offset in the file, or in one that that includes, and none where the file is refused for
-/// something else. The error is that with which `aa_profile::read_file_in` refuses the file, read by the same language, and is no want of memory.
+/// The place of the first rule with which the one conflicts for which a file is refused (docs/policy.md, "Rules that conflict"): both are rules of
+/// one profile, child or hat. It is a byte offset in the file, or in one that this includes, and `None` where the file is refused for something
+/// else. The error is the one with which `aa_profile::read_file_in` refuses the file, read by the same language, other than `Memory`.
 ///
-/// Where an included file has the refused rule, it may be refused in several profiles, children and hats: that of the first of these is told, where a
-/// profile's own rules come before those of its children and hats.
+/// Where an included file has the refused rule, it may be refused in several profiles, children and hats: the result is for the first of these,
+/// where a profile's own rules come before those of its children and hats.
 ///
 /// # Errors
 ///

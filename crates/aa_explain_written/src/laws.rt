@@ -1,4 +1,4 @@
-//! What holds of written rules, as laws over the definitions that the calls are proved to follow.
+//! Properties of written rules, as laws over the definitions that the calls are proved to follow.
 
 ghost use Rattle.std.specs.Prelude.{◌≡◌, ◌<◌, [], ◌∷◌, ◌++◌, ℕ, Bool, is_some, List, Ok, Some, true};
 ghost use Rattle.aa_decide_rules.specs.Verdict.{verdict};
@@ -18,10 +18,10 @@ ghost use Rattle.aa_text_files.specs.Files.{File};
 
 use aa_glob::quoted_text_reads_as_itself;
 
-/// What is written is read: a file of one profile with the written rule in its block, between blanks, spells this one profile by each language,
-/// and the rules of that are this one rule. Its pattern alone may be written with more backslashes than the rule's own. It reads the same, so
-/// it matches the same; and it is the rule's own where no byte of the path is a quote, a closing bracket, or a slash behind another. Among any
-/// other rules, the rule that is read leads to the verdicts of the one that was written.
+/// What is written is read back: a file of one profile with the written rule in its block, between blanks, is read as this one profile by each
+/// language, and its rules are this one rule. Its pattern alone may be written with more backslashes than the rule's own. It reads the same, so it
+/// matches the same; and it is the rule's own where no byte of the path is a quote, a closing bracket, or a slash after another. Among any other
+/// rules, the rule that is read leads to the verdicts of the one that was written.
 pub fn what_is_written_is_read()
     ensures rules_are_read_back { (language : Language) (files : List File) (name : List ℕ) (rule : Rule) (text : List ℕ)
         → IsOfOne rule → written_rule rule ≡ Some text → HasFileOf files name text
@@ -36,8 +36,8 @@ pub fn what_is_written_is_read()
     quoted_text_reads_as_itself();
 }
 
-/// The rules that requests lack are of that kind: one on a file is on its path alone. It is written where the path can stand between quotes,
-/// having no line feed and not being too long there; so is that of each capability, and of each domain and type.
+/// The rules that requests lack can be written: one on a file is on its path alone, and is written where the path can be in quotes, having no line
+/// feed and not being too long there; so is that of each capability, and of each domain and type.
 pub fn which_missing_rules_are_written()
     ensures each_is_on_one_path { (request : Request) (rules : List Rule) (rule : Rule) → missing_rule request rules ≡ Some rule → IsOfOne rule }
     ensures of_each_path { (letters : ℕ) (owned : Bool) (path : List ℕ) (rules : List Rule) (rule : Rule)

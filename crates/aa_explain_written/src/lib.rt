@@ -1,4 +1,5 @@
-//! Rules as a profile's file writes them: the one that is missing, so that it can be pasted into one, and the one that another rule of the file is refused for.
+//! Rules as a profile's file writes them: the rule that a request lacks, so that it can be pasted into a file; and the earlier rule of a file with
+//! which the refused one conflicts.
 #![tactic(auto)]
 
 mod conflicts;

@@ -1,4 +1,4 @@
-//! The rules of a profile, child or hat, and the one before the refused one with which that conflicts.
+//! The rules of a profile, child or hat, and the one before the refused one with which it conflicts.
 
 ghost use Rattle.std.specs.Prelude.{◌≡◌, IfOk};
 ghost use Rattle.aa_explain_written.specs.EarlierRules.{earlier_among, earlier_in_children, earlier_in_profile, earlier_in_profiles};
@@ -11,7 +11,7 @@ use aa_profile_grammar::{ProfilePlaces, SectionPlaces};
 use aa_text_files::Place;
 use std::alloc::{AllocError, Global};
 
-// Whether a rule stands at a place, by its own if it has one.
+// Whether a rule is at a place, by its own place if it has one.
 fn is_place(own: Option<Place>, place: Place) -> bool
     ensures { result ≡ is_place own place }
 {
@@ -21,7 +21,7 @@ fn is_place(own: Option<Place>, place: Place) -> bool
     }
 }
 
-// Whether the rule of a number among some does, by the places of these.
+// Whether the rule of an index is at a place, by the places of the rules.
 fn stands_at(places: &[Option<Place>], number: usize, place: Place) -> bool
     ensures { result ≡ stands_at places.now number place }
 {
@@ -31,7 +31,7 @@ fn stands_at(places: &[Option<Place>], number: usize, place: Place) -> bool
     }
 }
 
-// The place of the first of some rules with which one conflicts, by the places of these.
+// The place of the first of some rules with which one conflicts, by the places of the rules.
 fn first_opposed(
     alloc: Global,
     refused: &Rule,
@@ -55,7 +55,7 @@ fn first_opposed(
     Ok(None)
 }
 
-// The place of the first before the rule of this number with which that one conflicts.
+// The place of the first rule before the one at this index with which that one conflicts.
 fn opposed_before(
     alloc: Global,
     number: usize,
@@ -70,7 +70,7 @@ fn opposed_before(
     }
 }
 
-// That of rules: where the first of them that conflicts with one before it stands at a place.
+// The place of the earlier rule among some rules, where the first of them that conflicts with one before it is at `place`.
 fn earlier_among(
     alloc: Global,
     place: Place,
@@ -89,7 +89,7 @@ fn earlier_among(
     }
 }
 
-// That of the first of some children and hats that has one.
+// The place of the earlier rule among the first of some children and hats that have one.
 fn earlier_in_children(
     alloc: Global,
     place: Place,
@@ -118,7 +118,7 @@ fn earlier_in_children(
     Ok(None)
 }
 
-// That of a profile's own rules, or else of its children and hats.
+// The place of the earlier rule among a profile's own rules, or else among those of its children and hats.
 fn earlier_in_profile(
     alloc: Global,
     place: Place,
@@ -144,7 +144,7 @@ fn earlier_in_profile(
     )
 }
 
-/// The place of the first rule before a refused one with which that conflicts, where a profile, child or hat has the refused one at a place: it is the
+/// The place of the first rule with which the refused one conflicts, in the first profile, child or hat that has the refused one at `place`, as the
 /// first of its rules that conflicts with one before it. `places` are those of the profiles, in their order.
 ///
 /// # Errors

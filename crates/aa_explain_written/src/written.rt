@@ -16,10 +16,10 @@ use aa_profile_data::{
 use bitflags::Flags;
 use std::alloc::{AllocError, Global};
 
-// Sets of the letters that requests ask for are below this one.
+// Sets of the letters that requests can ask for are less than this.
 const ASKED_LETTERS: u8 = 64;
 
-// Puts the exec word of a rule behind a text, where it has one.
+// Appends the exec word of a rule to a text, if it has one.
 fn push_word(text: &mut Vec<u8>, exec: &Option<Transition>) -> Result<(), AllocError>
     ensures { OnOk result (text.new.items ≡ text.old.items ++ word_text exec.now) }
 {
@@ -29,7 +29,7 @@ fn push_word(text: &mut Vec<u8>, exec: &Option<Transition>) -> Result<(), AllocE
     }
 }
 
-// Puts the word before a rule behind a text that is about the owner's files alone.
+// Appends `owner ` to a text, if the rule has it.
 fn push_owner(text: &mut Vec<u8>, owner: bool) -> Result<(), AllocError>
     ensures { OnOk result (text.new.items ≡ text.old.items ++ owner_text owner) }
 {
@@ -39,7 +39,7 @@ fn push_owner(text: &mut Vec<u8>, owner: bool) -> Result<(), AllocError>
     Ok(())
 }
 
-// Puts the access of a rule on files behind a text.
+// Appends the access of a rule on files to a text.
 fn push_access(text: &mut Vec<u8>, rule: &FileRule) -> Result<(), AllocError>
     ensures { OnOk result (text.new.items ≡ text.old.items ++ access_text rule.now) }
 {
@@ -47,7 +47,7 @@ fn push_access(text: &mut Vec<u8>, rule: &FileRule) -> Result<(), AllocError>
     push_word(text, &rule.exec)
 }
 
-// Puts a pattern in quotes behind a text, and a blank.
+// Appends a pattern in quotes and a blank to a text.
 fn push_pattern(text: &mut Vec<u8>, pattern: &[u8]) -> Result<(), AllocError>
     ensures { OnOk result (text.new.items ≡ text.old.items ++ quote ∷ pattern.now ++ quote ∷ space ∷ []) }
 {
@@ -56,7 +56,7 @@ fn push_pattern(text: &mut Vec<u8>, pattern: &[u8]) -> Result<(), AllocError>
     text.extend_from_slice(b"\" ")
 }
 
-// The text of a rule on files, from its pattern between quotes.
+// The text of a rule on files, from its pattern in quotes.
 fn file_text(alloc: Global, rule: &FileRule, pattern: &[u8]) -> Result<Vec<u8>, AllocError>
     requires { pattern.now ≡ between_quotes rule.now.pattern }
     ensures { IfOk result (λ text. text.items ≡ file_text rule.now) }
@@ -68,7 +68,7 @@ fn file_text(alloc: Global, rule: &FileRule, pattern: &[u8]) -> Result<Vec<u8>, 
     Ok(text)
 }
 
-// Puts a pattern in quotes behind a text, the access of its rule, and the comma that ends it.
+// Appends a pattern in quotes, the access of its rule, and the comma that ends it to a text.
 fn push_rest(text: &mut Vec<u8>, rule: &FileRule, pattern: &[u8]) -> Result<(), AllocError>
     ensures { OnOk result (text.new.items ≡ text.old.items ++ quote ∷ pattern.now ++ quote ∷ space ∷ access_text rule.now ++ comma ∷ []) }
 {
@@ -78,7 +78,7 @@ fn push_rest(text: &mut Vec<u8>, rule: &FileRule, pattern: &[u8]) -> Result<(), 
     Ok(())
 }
 
-// Whether a program runs under who starts it, where a rule has an exec word.
+// Whether a program runs under the profile that starts it, where a rule has an exec word.
 fn is_inherited(exec: &Option<Transition>) -> bool
     ensures { result ≡ is_inherited exec.now }
 {
@@ -90,7 +90,7 @@ fn is_inherited(exec: &Option<Transition>) -> bool
     }
 }
 
-// Whether a rule lets something by letters that requests ask for, where `w` and `a` don't stand together, or by an exec word.
+// Whether a rule allows something by letters that requests can ask for, without both `w` and `a`, or by an exec word.
 fn has_access(rule: &FileRule) -> bool
     ensures { result ≡ has_access rule.now }
 {
@@ -100,7 +100,7 @@ fn has_access(rule: &FileRule) -> bool
         && !(letters.bits() == 0 && rule.exec.is_none())
 }
 
-// Whether it says what it lets by its letters and by `ix` alone.
+// Whether a rule says no more than what its letters and `ix` allow.
 fn has_no_more(rule: &FileRule) -> bool
     ensures { result ≡ has_no_more rule.now }
 {
@@ -118,7 +118,7 @@ fn rank_of_one(rule: &FileRule) -> Rank
     }
 }
 
-// Whether a rule lets something of one path alone, by letters and by `ix`.
+// Whether a rule allows something of one path alone, by letters and by `ix`.
 fn lets_of_one(rule: &FileRule) -> bool
     ensures { result ≡ lets_of_one rule.now }
 {
@@ -128,7 +128,7 @@ fn lets_of_one(rule: &FileRule) -> bool
         && rule.pattern.is_exact()
 }
 
-// The text of a rule on files, if it is written.
+// The text of a rule on files, if it can be written.
 fn written_file(alloc: Global, rule: &FileRule) -> Result<Option<Vec<u8>>, AllocError>
     ensures { IfOk result (λ made. option_map (λ text. text.items) made ≡ written_file rule.now) }
 {
@@ -142,7 +142,7 @@ fn written_file(alloc: Global, rule: &FileRule) -> Result<Option<Vec<u8>>, Alloc
     Ok(Some(file_text(alloc, rule, &pattern)?))
 }
 
-// The name of the one capability that a set has, if it has one.
+// The name of the capability of a set that has only one, or `None`.
 fn name_of_one<'a>(set: u64, names: &[&'a str]) -> Option<&'a str>
     requires { length names.now ≤ 63 }
     ensures { option_map (λ name. name.now) result ≡ name_of_one set 0 (map (λ name. name.now) names.now) }
@@ -170,7 +170,7 @@ fn capability_text(alloc: Global, name: &str) -> Result<Vec<u8>, AllocError>
     Ok(text)
 }
 
-// The text of a rule on capabilities, if it is written.
+// The text of a rule on capabilities, if it can be written.
 fn written_capability(alloc: Global, rule: &CapRule) -> Result<Option<Vec<u8>>, AllocError>
     ensures { IfOk result (λ made. option_map (λ text. text.items) made ≡ written_capability rule.now) }
 {
@@ -195,7 +195,7 @@ fn network_text(alloc: Global, domain: &str, kind: &str) -> Result<Vec<u8>, Allo
     Ok(text)
 }
 
-// Puts a type behind a text and a blank, and the comma that ends it.
+// Appends a blank, a type, and the comma that ends the rule to a text.
 fn push_kind(text: &mut Vec<u8>, kind: &str) -> Result<(), AllocError>
     ensures { OnOk result (text.new.items ≡ text.old.items ++ space ∷ kind.now ++ comma ∷ []) }
 {
@@ -205,7 +205,7 @@ fn push_kind(text: &mut Vec<u8>, kind: &str) -> Result<(), AllocError>
     Ok(())
 }
 
-// The name of a type, if it is one.
+// The name of a type, or `None` for a protocol.
 fn type_name(kind: u8) -> Option<&'static str>
     ensures { option_map (λ name. name.now) result ≡ type_name kind }
 {
@@ -215,7 +215,7 @@ fn type_name(kind: u8) -> Option<&'static str>
     kind_name(kind)
 }
 
-// The text of a rule on sockets, if it is written.
+// The text of a rule on sockets, if it can be written.
 fn written_network(alloc: Global, rule: &NetRule) -> Result<Option<Vec<u8>>, AllocError>
     ensures { IfOk result (λ made. option_map (λ text. text.items) made ≡ written_network rule.now) }
 {
@@ -231,9 +231,9 @@ fn written_network(alloc: Global, rule: &NetRule) -> Result<Option<Vec<u8>>, All
     }
 }
 
-/// A rule as a profile's file writes it, so that it can be pasted into one: a rule on files that lets something of one path, as
-/// `owner file "/a" rix,`, one that lets one capability, or one that lets the sockets of one type in one domain. There is none of a rule that
-/// denies or is audited, that has another exec word or a target, or whose path has a line feed or is too long with the backslashes that it needs.
+/// A rule as a profile's file writes it, so that it can be pasted into one: a rule on files that allows something of one path, as `owner file "/a"
+/// rix,`, one that allows one capability, or one that allows the sockets of one type in one domain. `None` for a rule that denies or is audited,
+/// that has another exec word or a target, or whose path has a line feed or is too long with the backslashes that it needs.
 ///
 /// # Errors
 ///

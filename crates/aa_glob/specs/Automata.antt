@@ -1,5 +1,5 @@
--- What an automaton is to its caller: the patterns that it was built of, in their order. Contracts see which patterns these are by
--- `IsAutomatonOf`; how many states they have, and so how many visits a path takes at most, is said of the patterns by `HasStates`.
+-- What an automaton is to its caller: the patterns of which it was built, in their order. Contracts see which patterns these are by `IsAutomatonOf`;
+-- how many states they have, and so how many visits a path takes at most, is said of the patterns by `HasStates`.
 use Rattle.std.specs.Prelude.{◌≡◌, ◌↔◌, ℕ, ◌<◌, ◌≤◌, List, [], length, Ok, Option, None, Some}
 use Rattle.std.specs.List.{All}
 use Rattle.aa_glob.specs.Drawn.{IsDrawn, trail_at}
@@ -33,6 +33,6 @@ abbrev pub IsAutomatonOf : Option Graph → List (List ℕ) → Type 0
 IsAutomatonOf None patterns = patterns ≡ []
 IsAutomatonOf (Some g) patterns = IsGraphOf g patterns
 
--- there is a class for each of the patterns that an automaton is of
+-- there is a class for each of the automaton's patterns
 abbrev pub AreClassesOf : Option Graph → List ℕ → Type 0
 AreClassesOf automaton classes = (patterns : List (List ℕ)) × IsAutomatonOf automaton patterns × (length patterns ≤ length classes)

@@ -1,4 +1,4 @@
--- What an automaton that is being made stands for: the patterns so far.
+-- What an automaton that is being built stands for: the patterns so far.
 use Rattle.std.specs.Prelude.{◌≡◌, ℕ, List, length}
 use Rattle.aa_glob.specs.Automata.{AreRead}
 use Rattle.aa_glob.specs.code.Followed.{Between}

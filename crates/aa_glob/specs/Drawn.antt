@@ -11,13 +11,13 @@ use Rattle.aa_glob_nfa.specs.declared.entry.Entry.{Entry}
 use Rattle.aa_glob_nfa.specs.declared.entry.Entry.TheVariants.{Free, Byte as ByteEntry, Star as StarEntry, DoubleStar as DoubleStarEntry}
 use Rattle.aa_glob_pattern.specs.Trails.{sources, Trail}
 
--- a byte of a set is taken to come in, and no byte leaves the state as it is
+-- a byte of a set leads into the state, and no byte stays in it
 pub record TakesSet (set : ByteSet) (entry : Entry) : Type 0 where
   pub not_free : is_free entry ≡ false
   pub bytes : (c : ℕ) → c < 2 ^ 8 → takes_byte entry c ≡ has set c
   pub not_staying : (c : ℕ) → stays_at entry c ≡ false
 
--- what it takes to come into a state is what it takes to read this element; groups and faults are no elements of a pattern that was read
+-- the entry of a state is what reads this element; groups and faults are no elements of a pattern that was read
 abbrev pub Suits : Element → Entry → Type 0
 Suits (Single (Byte b)) entry = entry ≡ ByteEntry b
 Suits (Single (Set set)) entry = TakesSet set entry
@@ -29,7 +29,7 @@ Suits Comma entry = entry ≡ Free
 Suits Close entry = entry ≡ Free
 Suits (Fault error) entry = ⊥
 
--- what it takes to come into a state is what it takes to read the last element of its trail
+-- the entry of a state is what reads the last element of its trail
 abbrev pub SuitsLast : Trail → Entry → Type 0
 SuitsLast [] entry = entry ≡ Free
 SuitsLast (e ∷ trail) entry = Suits e entry
@@ -57,7 +57,7 @@ HaveSources trails from trail =
     All (λ q. q < length trails) from
     × ((source : Trail) → (Contains (map (trail_at trails) from) source ↔ Contains (sources trail) source))
 
--- a state with this entry is put behind the others, and ways lead to it from these states alone
+-- a state with this entry is appended, and ways lead to it only from these states
 pub record AddsState (old new : Graph) (entry : Entry) (from : List ℕ) : Type 0 where
   pub entries : new.entries ≡ old.entries ++ entry ∷ []
   pub ways : (q r : ℕ) → (Leads new q r ↔ (Leads old q r ⊎ ((r ≡ length old.entries) × Contains from q)))

@@ -1,4 +1,4 @@
--- What holds of graphs that are drawn of trails.
+-- Properties of graphs that are drawn of trails.
 use Rattle.std.specs.Prelude.{◌≡◌, ◌↔◌, ℕ, ◌<◌, true, Contains, List, [], ◌∷◌, ◌++◌, length, Ok, reverse}
 use Rattle.aa_glob_syntax.specs.Elements.{Element}
 use Rattle.aa_glob_syntax.specs.Matching.{matches}
@@ -10,14 +10,14 @@ use Rattle.aa_glob.specs.Drawn.{AddsState, HaveSources, IsDrawn, Suits, trail_at
 use Rattle.aa_glob_pattern.specs.Reads.{reads}
 use Rattle.aa_glob_pattern.specs.Trails.{Trail, trail_of}
 
--- a state is reached behind the texts that read its trail
+-- a state is reached by the texts that read its trail
 abbrev pub ReachingIsReading : Type 0
 ReachingIsReading =
     (g : Graph) (trails : List Trail) → IsDrawn g trails
     → (q : ℕ) (past : List ℕ) → q < length trails → AreBytes past
     → (Reaches g past q ↔ (reads (trail_at trails q) past ≡ true))
 
--- the state that has a pattern's trail is reached behind the texts that match the pattern
+-- the state that has a pattern's trail is reached by the texts that match the pattern
 abbrev pub ReachingTheEndIsMatching : Type 0
 ReachingTheEndIsMatching =
     (g : Graph) (trails : List Trail) → IsDrawn g trails
@@ -37,7 +37,7 @@ AddedIsDrawn =
     → HaveSources trails from (e ∷ trail) → AddsState old new entry from
     → IsDrawn new (trails ++ (e ∷ trail) ∷ [])
 
--- which ways and entries there are is all that counts
+-- only the ways and entries matter
 abbrev pub SameIsDrawn : Type 0
 SameIsDrawn =
     (g h : Graph) (trails : List Trail)

@@ -12,7 +12,7 @@ use Rattle.aa_glob.specs.Tree.{Ways, next, places}
 abbrev pub group_at : List Trail → OpenStates → TrailGroup
 group_at trails g = record { beginning = trail_at trails g.beginning; ends = map (trail_at trails) g.ends }
 
--- a group is open at states that are there
+-- the states of an open group exist
 abbrev pub IsThere : ℕ → OpenStates → Type 0
 IsThere states g = (g.beginning < states) × All (λ q. q < states) g.ends
 
@@ -23,7 +23,7 @@ pub record StandsAt (trails : List Trail) (walk : Standing) (trail : Trail) : Ty
   pub groups_there : All (IsThere (length trails)) walk.groups
   pub groups : map (group_at trails) walk.groups ≡ groups_of trail
 
--- In the tree each state is found behind that of the trail before its own, by the number of its last element, and no other.
+-- In the tree each state is found from that of the trail before its own, by the number of its last element, and no other is.
 pub record Finds (ways : Ways) (keys : List (List ℕ)) (trails : List Trail) : Type 0 where
   pub places : places ways ≡ length trails
   pub found : (p n q : ℕ) → n < most_number → next ways p n ≡ Some q
@@ -31,7 +31,7 @@ pub record Finds (ways : Ways) (keys : List (List ℕ)) (trails : List Trail) : 
   pub all : (q : ℕ) (e : Element) (trail : Trail) → q < length trails → trail_at trails q ≡ e ∷ trail
       → (p n : ℕ) × (p < length trails) × (trail_at trails p ≡ trail) × (n < most_number) × (number_of keys e ≡ Some n) × (next ways p n ≡ Some q)
 
--- these trails, and maybe others behind them
+-- these trails, and maybe more after them
 pub record GoesOn (trails more : List Trail) : Type 0 where
   pub longer : (q : ℕ) → q < length trails → q < length more
   pub same : (q : ℕ) → q < length trails → trail_at more q ≡ trail_at trails q

@@ -7,7 +7,7 @@ use Rattle.aa_glob_syntax.specs.Reading.{HasNoFirstFault, reading}
 use Rattle.aa_glob_syntax.specs.declared.pattern_error.PatternError.{PatternError}
 use Rattle.aa_glob_syntax.specs.declared.pattern_error.PatternError.TheVariants.{EmptyClass, BadRange, StrayClose, FewAlternatives, BadEscape, TooDeep}
 
--- a byte that outside groups and classes stands for itself only behind a backslash: `\`, `*`, `?`, `[`, `{` and `}`
+-- a byte that outside groups and classes stands for itself only after a backslash: `\`, `*`, `?`, `[`, `{` and `}`
 abbrev pub needs_backslash : ℕ → Bool
 needs_backslash b = b == backslash || b == star || b == question_mark || b == opening_bracket || b == opening_brace || b == closing_brace
 
@@ -33,8 +33,8 @@ ends_with_backslash [] = false
 ends_with_backslash (b ∷ []) = b == backslash
 ends_with_backslash (b ∷ c ∷ bs) = ends_with_backslash (c ∷ bs)
 
--- A fault that is met before a text's end, and so is reported whatever follows. A class or group that isn't closed is met at the end,
--- and so is a backslash that stands there; a text's length, a zero byte and its first byte are looked at before any of these.
+-- A fault that is met before a text's end, and so is reported whatever follows. A class or group that isn't closed is met at the end, and so is a
+-- backslash there; a text's length, a zero byte and its first byte are looked at before any of these.
 abbrev pub is_met_before_end : List ℕ → PatternError → Bool
 is_met_before_end text EmptyClass = true
 is_met_before_end text BadRange = true
@@ -48,6 +48,6 @@ is_met_before_end text _ = false
 abbrev pub IsRefusedBeforeEnd : List ℕ → PatternError → Type 0
 IsRefusedBeforeEnd text error = (reading text ≡ Err error) × (is_met_before_end text error ≡ true)
 
--- whatever follows a text, it is refused by this fault, unless it then has one of those that are told first
+-- whatever follows a text, it is refused by this fault, unless it then has one of those that are checked first
 abbrev pub IsRefusedHoweverItEnds : List ℕ → PatternError → Type 0
 IsRefusedHoweverItEnds text error = (more : List ℕ) → HasNoFirstFault (text ++ more) → reading (text ++ more) ≡ Err error

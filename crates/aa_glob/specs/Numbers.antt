@@ -1,4 +1,4 @@
--- Numbers of elements, by which the way behind a beginning of a pattern is found. Sets of bytes are numbered as they come.
+-- Numbers of elements, by which the state after a beginning of a pattern is found. Sets of bytes are numbered in the order in which they are met.
 use Rattle.std.specs.Prelude.{◌≡◌, ℕ, ◌+◌, nat_lt, if◌then◌else◌, List, [], ◌∷◌, Option, None, Some}
 use Rattle.std.specs.Str.{bytes_eq}
 use Rattle.aa_glob_syntax.specs.Elements.{Element, Single, Open, Comma, Close, Fault}
@@ -17,11 +17,11 @@ abbrev pub key_of : ByteSet → List ℕ
 key_of Inside = []
 key_of (Class negated ranges) = (if negated then 1 else 0) ∷ ends_of ranges
 
--- the number of the set that came first: below it are those of bytes, stars, braces and commas
+-- the number of the first set that is met: less than it are those of bytes, stars, braces and commas
 abbrev pub first_set : ℕ
 first_set = 261
 
--- no number is this one or above it
+-- every number is less than this
 abbrev pub most_number : ℕ
 most_number = 4294967295
 
@@ -34,7 +34,7 @@ number_from first key (k ∷ ks) = if bytes_eq key k then Some first else number
 abbrev pub number_of_set : List (List ℕ) → ByteSet → Option ℕ
 number_of_set keys set = number_from first_set (key_of set) keys
 
--- The number of an element: that of a byte is the byte itself. An element that no pattern has, and a set that hasn't come, have none.
+-- The number of an element: that of a byte is the byte itself. An element that no pattern has, and a set that wasn't met, have none.
 abbrev pub number_of : List (List ℕ) → Element → Option ℕ
 number_of keys (Single (Byte b)) = if nat_lt b 256 then Some b else None
 number_of keys (Single (Set set)) = number_of_set keys set

@@ -1,4 +1,4 @@
--- How many different beginnings patterns have, counted: they are gathered element by element, and one that is there already isn't taken again.
+-- How many different beginnings patterns have, counted: they are collected element by element, and one that is there already isn't added again.
 use Rattle.std.specs.Prelude.{ℕ, Bool, true, false, ◌&&◌, if◌then◌else◌, List, [], ◌∷◌, ◌++◌, length}
 use Rattle.std.specs.List.{list_any}
 use Rattle.std.specs.Str.{bytes_eq}
@@ -26,16 +26,16 @@ same_trail [] (f ∷ t) = false
 same_trail (e ∷ s) [] = false
 same_trail (e ∷ s) (f ∷ t) = bytes_eq (code_of e) (code_of f) && same_trail s t
 
--- some beginnings, and this one, where it isn't there already
+-- some beginnings, with this one added if it isn't there
 abbrev pub with_beginning : List Trail → Trail → List Trail
 with_beginning trails trail = if list_any (same_trail trail) trails then trails else trails ++ trail ∷ []
 
--- some beginnings, of which the empty one is one, and those of this trail
+-- some beginnings, which include the empty one, with those of this trail added
 abbrev pub with_beginnings : List Trail → Trail → List Trail
 with_beginnings trails [] = trails
 with_beginnings trails (e ∷ trail) = with_beginning (with_beginnings trails trail) (e ∷ trail)
 
--- some beginnings, of which the empty one is one, and those of these texts
+-- some beginnings, which include the empty one, with those of these texts added
 abbrev pub with_texts : List Trail → List (List ℕ) → List Trail
 with_texts trails [] = trails
 with_texts trails (text ∷ texts) = with_texts (with_beginnings trails (trail_of text)) texts

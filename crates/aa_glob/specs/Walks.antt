@@ -1,13 +1,13 @@
--- Where the walk of a pattern through the states of its beginnings has come.
+-- Where the walk of a pattern through the states of its beginnings is.
 use Rattle.std.specs.Prelude.{ℕ, List}
 use Rattle.aa_glob_syntax.specs.Elements.{Element}
 use Rattle.aa_glob_syntax.specs.OpenGroups.{groups_behind, OpenGroup, sources_behind}
 
--- a group that is open: the state behind its brace, and those before its commas, the last one first
+-- a group that is open: the state after its brace, and those before its commas, the last one first
 abbrev pub OpenStates : Type 0
 OpenStates = OpenGroup ℕ (List ℕ)
 
--- where a walk has come: the state, and the groups that are open there, the innermost first
+-- where a walk is: the state, and the groups that are open there, the innermost first
 pub record Standing : Type 0 where
   pub state : ℕ
   pub groups : List OpenStates
@@ -15,7 +15,7 @@ pub record Standing : Type 0 where
 abbrev pub standing_at : ℕ → List OpenStates → Standing
 standing_at state groups = record { state = state; groups = groups }
 
--- the walk has gone on over an element, to a state
+-- the walk has followed an element to a state
 abbrev pub entered : Element → ℕ → Standing → Standing
 entered e to walk = standing_at to (groups_behind e walk.state to walk.groups)
 

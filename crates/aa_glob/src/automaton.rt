@@ -1,4 +1,4 @@
-//! Automata of patterns.
+//! The automaton of some patterns.
 
 ghost use Rattle.std.specs.Prelude.{◌≡◌, ◌≤◌, ℕ, List, IfOk, None, OnOk, Some};
 ghost use Rattle.std.specs.List.Sorted.{IsStrictlyIncreasing};
@@ -20,11 +20,11 @@ use aa_glob_run::Nfa;
 use std::alloc::{AllocError, Global};
 use std::marker::Model;
 
-/// An automaton of some patterns, which finds all of them that match a path in one run over it. Contracts see of which patterns it was made
-/// (`IsAutomatonOf`).
+/// The automaton of some patterns, which finds all of them that match a path in one run over it. It keeps no copy of their texts. Contracts see of
+/// which patterns it is (`IsAutomatonOf`).
 #[derive(Drop)]
 pub struct Automaton {
-    // None where there are no patterns.
+    // `None` where there are no patterns.
     nfa: Option<Nfa>,
 }
 
@@ -38,21 +38,22 @@ impl Model for Automaton {
 }
 
 impl Automaton {
-    // That of no patterns.
+    // The automaton of no patterns.
     pub(crate) fn none() -> Automaton
         ensures { result ≡ None }
     {
         Automaton { nfa: None }
     }
 
-    // That of this one, which has a pattern.
+    // The automaton with this graph, of one pattern or more.
     pub(crate) fn of(nfa: Nfa) -> Automaton
         ensures { result ≡ Some nfa }
     {
         Automaton { nfa: Some(nfa) }
     }
 
-    /// The automaton of some patterns, each of which has its place among them.
+    /// Builds the automaton of some patterns. A pattern's place in answers is its index in the slice. It has one state for each different beginning
+    /// of the patterns, and so at most two for each byte of their texts and two for each pattern.
     ///
     /// # Errors
     ///
@@ -65,7 +66,7 @@ impl Automaton {
         Ok(added.finish())
     }
 
-    /// What is run, lent, or nothing where there are no patterns. It takes no memory.
+    /// The finished automaton that is run, lent, or `None` where there are no patterns. It takes no memory; `O(1)`.
     pub fn nfa(&self) -> Option<&Nfa>
         ensures { option_copied result ≡ self.now }
     {
@@ -76,7 +77,7 @@ impl Automaton {
     }
 
     /// How many states there are: one for each different beginning of the patterns, and so at most two for each byte of their texts and two for each
-    /// pattern; none where there is no pattern. It takes no memory.
+    /// pattern; none where there is no pattern. It takes no memory; `O(1)`.
     pub fn states(&self) -> usize
         ensures states { (patterns : List (List ℕ)) → IsAutomatonOf self.now patterns → HasStates patterns result }
         ensures few { (patterns : List (List ℕ)) → IsAutomatonOf self.now patterns → result ≤ most_states patterns }
@@ -88,8 +89,8 @@ impl Automaton {
         }
     }
 
-    /// The least place of a pattern that clashes with one at an earlier place: some text matches both, and their classes differ. `classes` has the
-    /// class of each pattern, by its place. None where no pattern clashes with an earlier one.
+    /// The least place (index) of a pattern that clashes with one at an earlier place: some text matches both, and their classes differ. `classes`
+    /// has the class of each pattern, by its place. `None` where no pattern clashes with an earlier one.
     ///
     /// # Errors
     ///
@@ -107,12 +108,13 @@ impl Automaton {
         }
     }
 
-    /// The places of the patterns that match a path, of any bytes, in rising order. A directory's path has to end with `/`, which the caller writes.
+    /// Returns the places (indices) of the patterns that match a path, of any bytes, in rising order. A directory's path has to end with `/`, which
+    /// the caller writes.
     ///
-    /// Steps are counted: one for each visit of a state at a place of the path, which are its bytes and its end. Each state is visited once at
-    /// most at each place, so that there are at most `(n + 1) * s` for a path of n bytes and s states; it ends at the first byte behind which no
-    /// pattern can match. So the steps are as many as there are different beginnings of the patterns that are read at each of the places,
-    /// all places together.
+    /// Steps are counted: one for each visit of a state at a place of the path, which are its bytes and its end. A state is visited at most once at
+    /// each place, so that there are at most `(n + 1) * s` steps for a path of n bytes and s states; the run stops at the first byte after which no
+    /// pattern can match. So the steps are as many as there are different beginnings of the patterns that are read at each of the places, all places
+    /// together.
     ///
     /// # Errors
     ///
@@ -142,9 +144,9 @@ impl Automaton {
         }
     }
 
-    /// Remembers what follows at the places of a path, and tells whether all of it is remembered now: so this path is gone through quicker from now on,
-    /// and others as far as they go the same ways. Contracts don't see it. It takes at most some 7 MB (docs/PERFORMANCE.md, "What is remembered"). Where
-    /// there is no room, or no memory, no more is remembered.
+    /// Remembers which states are live at the places of a path, and returns whether all of this is remembered now: later questions about this path
+    /// are answered quicker, and those about other paths as far as they reach the same states together. No answer changes, and contracts don't see
+    /// it. It takes at most some 7 MB (docs/PERFORMANCE.md, "What is remembered"). Where there is no room, or no memory, no more is remembered.
     pub fn remember(&mut self, alloc: Global, path: &[u8]) -> bool
         ensures { self.new ≡ self.old }
     {
@@ -154,7 +156,7 @@ impl Automaton {
         }
     }
 
-    /// Forgets what was remembered.
+    /// Forgets what was remembered, and frees its memory.
     pub fn forget(&mut self, alloc: Global)
         ensures { self.new ≡ self.old }
     {

@@ -1,4 +1,4 @@
-//! Automata while they are made.
+//! Automata while they are built.
 
 ghost use Rattle.std.specs.Prelude.{◌≡◌, ◌+◌, ◌++◌, ◌∷◌, [], ℕ, List, length, IfOk, Ok};
 ghost use Rattle.aa_glob.specs.Automata.{IsAutomatonOf};
@@ -18,7 +18,7 @@ use aa_glob_run::Drawing;
 use std::alloc::{AllocError, Global};
 use std::marker::Model;
 
-/// An automaton while it is made, pattern by pattern. Contracts see of which patterns it is made so far (`IsBuilt`).
+/// An automaton while it is built, pattern by pattern. Contracts see of which patterns it is so far (`IsBuilt`).
 #[derive(Drop)]
 pub struct AutomatonBuilder {
     growing: Growing,
@@ -38,7 +38,7 @@ impl Model for AutomatonBuilder {
 }
 
 impl AutomatonBuilder {
-    /// No pattern yet.
+    /// A builder without a pattern.
     ///
     /// # Errors
     ///
@@ -59,11 +59,11 @@ impl AutomatonBuilder {
         })
     }
 
-    /// The same with a pattern more, which has its place behind the others.
+    /// Adds a pattern, whose place comes after those of the others, and returns the builder.
     ///
     /// # Errors
     ///
-    /// Where memory runs out, and where there are 4,294,967,295 patterns or states already. What was made is dropped then.
+    /// Where memory runs out, and where there are 4,294,967,295 patterns or states already. The builder is dropped then.
     pub fn add(self, alloc: Global, pattern: &Pattern) -> Result<AutomatonBuilder, AllocError>
         ensures { IfOk result (λ added. (patterns : List (List ℕ)) → IsBuilt self patterns → IsBuilt added (patterns ++ pattern.now ∷ [])) }
     {
@@ -84,11 +84,11 @@ impl AutomatonBuilder {
         })
     }
 
-    /// The same with more patterns, which have their places behind the others, in their order.
+    /// Adds more patterns, whose places come after those of the others, in their order, and returns the builder.
     ///
     /// # Errors
     ///
-    /// As `add`.
+    /// As for `add`.
     pub fn add_each(self, alloc: Global, more: &[Pattern]) -> Result<AutomatonBuilder, AllocError>
         ensures { IfOk result (λ added. (patterns : List (List ℕ)) → IsBuilt self patterns → IsBuilt added (patterns ++ more.now)) }
     {
@@ -113,7 +113,7 @@ impl AutomatonBuilder {
         }
     }
 
-    /// The automaton of these patterns. It takes no memory.
+    /// The automaton of the patterns that were added. It takes no memory.
     pub fn finish(self) -> Automaton
         ensures { (patterns : List (List ℕ)) → IsBuilt self patterns → IsAutomatonOf result patterns }
     {

@@ -1,4 +1,4 @@
-//! What the elements of patterns are to an automaton.
+//! States and numbers of the elements of patterns.
 
 ghost use Rattle.std.specs.Prelude.{◌≡◌, ℕ, ◌<◌, ◌^◌, ◌==◌, ◌&&◌, ◌||◌, length, Some, IfOk, OnOk};
 ghost use Rattle.aa_bytes.specs.ByteSets.{has};
@@ -16,7 +16,7 @@ use aa_glob_run::Drawing;
 use aa_glob_syntax::Element;
 use std::alloc::{AllocError, Global};
 
-// Puts a byte into a map, if the set has it.
+// Adds a byte to a map, if the set has it.
 fn put_if_had(map: &mut ByteMap, set: &ByteSet, byte: u8)
     ensures { (other : ℕ) → in_map map.new other ≡ (other == byte && has set.now byte || in_map map.old other) }
 {
@@ -25,7 +25,7 @@ fn put_if_had(map: &mut ByteMap, set: &ByteSet, byte: u8)
     }
 }
 
-// The bytes of a set.
+// A set of bytes as a map.
 fn map_of(set: &ByteSet) -> ByteMap
     ensures { (byte : ℕ) → byte < 2 ^ 8 → in_map result byte ≡ has set.now byte }
 {
@@ -37,8 +37,11 @@ fn map_of(set: &ByteSet) -> ByteMap
     map
 }
 
-/// Adds a state that is come into by an element. Its number is how many there were before. `AllocError` is answered where memory ran out, or where
-/// there are 4,294,967,295 states already.
+/// Adds a state that is entered by an element, and returns its number: how many there were before.
+///
+/// # Errors
+///
+/// Where memory runs out, and where there are 4,294,967,295 states already.
 pub fn add_state(
     drawing: &mut Drawing,
     alloc: Global,
@@ -60,7 +63,11 @@ pub fn add_state(
     }
 }
 
-/// The number of an element: below 4,294,967,295. `AllocError` is answered where memory ran out, or where no number is left.
+/// The number of an element: below 4,294,967,295.
+///
+/// # Errors
+///
+/// Where memory runs out, and where no number is left.
 pub fn number_of(
     numbers: &mut Numbers,
     alloc: Global,

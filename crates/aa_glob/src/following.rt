@@ -1,4 +1,4 @@
-//! The walk over the text of one more pattern, through what has grown.
+//! The walk over the text of another pattern, through the automaton so far.
 
 ghost use Rattle.std.specs.Prelude.{◌≡◌, IfOk, Ok};
 ghost use Rattle.aa_glob.specs.code.Followed.{IsGrown, LeadsToEnd};
@@ -10,7 +10,11 @@ use aa_glob_pattern::{Elements, which_elements_stand};
 use std::alloc::{AllocError, Global};
 
 impl Growing {
-    /// Goes over the elements of a text that reads as a pattern: the state of its end.
+    /// Follows the elements of a text that reads as a pattern, adding the states that aren't there yet, and returns the state of its end.
+    ///
+    /// # Errors
+    ///
+    /// Where memory runs out, and where there are too many states to be numbered.
     pub fn follow(&mut self, alloc: Global, text: &[u8]) -> Result<u32, AllocError>
         requires reads { reading text.now ≡ Ok (items_of text.now) }
         requires grown { IsGrown self.old }

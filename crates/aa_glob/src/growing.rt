@@ -18,8 +18,8 @@ use aa_glob_run::Drawing;
 use aa_glob_syntax::Element;
 use std::alloc::{AllocError, Global};
 
-/// What there is of an automaton while it grows: its states with their ways, the tree in which they are found, and the numbers of elements
-/// by which they are found there.
+/// An automaton while it grows: its states with their ways, the tree in which they are found, and the numbers of elements by which they are found
+/// there.
 #[derive(Drop)]
 pub struct Growing {
     pub drawing: Drawing,
@@ -28,7 +28,11 @@ pub struct Growing {
 }
 
 impl Growing {
-    /// Goes on over an element: to the state that it leads to, which is drawn if it isn't there yet.
+    /// Follows an element to the state that it leads to, which is added if it isn't there yet.
+    ///
+    /// # Errors
+    ///
+    /// Where memory runs out, and where there are too many states to be numbered.
     pub fn go_on(
         &mut self,
         alloc: Global,
@@ -81,7 +85,7 @@ impl Growing {
         self.draw_state(alloc, walk, element, number)
     }
 
-    // The same, by its ways alone.
+    // Adds the state to which an element leads by its number, with its ways.
     fn draw_state(
         &mut self,
         alloc: Global,

@@ -1,5 +1,4 @@
-//! What holds of reading and matching: which texts spell themselves, which faults are reported whatever follows them, and which
-//! texts match.
+//! Properties of reading and matching: which texts spell themselves, which faults are reported whatever follows them, and which texts match.
 
 ghost use Rattle.std.specs.Prelude.{◌≡◌, ◌↔◌, ℕ, true, false, List, Ok, IsTrue};
 ghost use Rattle.std.specs.List.{All};
@@ -12,18 +11,18 @@ ghost use Rattle.aa_glob_syntax.specs.declared.pattern_error.PatternError.{Patte
 
 use aa_glob_pattern::matching_is_by_splits;
 
-/// A text of bytes that need no backslash reads as these bytes, if it has none of the faults that are told first.
+/// A text of bytes that need no backslash reads as these bytes, if it has none of the faults that are checked first.
 pub fn plain_text_reads_as_itself()
     ensures { (text : List ℕ)
         → HasNoFirstFault text → All (λ b. needs_backslash b ≡ false) text → reading text ≡ Ok (bytes_pattern text) }
 {}
 
-/// A text with a backslash before each byte that needs one reads as these bytes, if it has none of the faults that are told first.
+/// A text with a backslash before each byte that needs one reads as these bytes, if it has none of the faults that are checked first.
 pub fn quoted_text_reads_as_itself()
     ensures { (text : List ℕ) → HasNoFirstFault (quoted text) → reading (quoted text) ≡ Ok (bytes_pattern text) }
 {}
 
-/// A fault that is met before a text's end is reported alike whatever follows, so texts that agree up to it are refused alike.
+/// A fault that is met before a text's end is reported whatever follows it, so texts that agree up to it are refused by the same fault.
 pub fn first_fault_is_reported()
     ensures { (text : List ℕ) (error : PatternError) → IsRefusedBeforeEnd text error → IsRefusedHoweverItEnds text error }
 {}

@@ -1,4 +1,8 @@
-//! Patterns as AppArmor's profiles write them: what they spell, which paths match, and one automaton for many.
+//! AppArmor's path patterns: what they spell, which paths match one, one automaton that finds all of many patterns that match a path, and whether
+//! two patterns overlap.
+//!
+//! A single pattern is matched by `Pattern::matches`, which takes no memory. To ask many patterns again and again, build an `Automaton` once: a
+//! question then costs a step for each beginning of a pattern that the path reads, and not one for each pattern.
 #![tactic(auto)]
 
 mod automaton;

@@ -1,4 +1,4 @@
-//! Numbers of the elements of patterns, by which the way behind a beginning is found.
+//! Numbers of the elements of patterns, by which the state after a beginning is found.
 
 ghost use Rattle.std.specs.Prelude.{◌≡◌, ◌<◌, ◌+◌, ◌++◌, ◌∷◌, [], None, Some, IfOk, IfSome, OnOk};
 ghost use Rattle.aa_glob.specs.Numbers.{AreKept, ends_of, first_set, key_of, most_number, number_from, number_of_set};
@@ -8,15 +8,15 @@ use std::alloc::{AllocError, Global};
 use std::collections::BTreeMap;
 use std::marker::Model;
 
-// The number of the class that came first.
+// The number of the first class that was numbered.
 const FIRST_CLASS: u32 = 261;
 
-/// The classes that have come, each of which has a number of its own.
+/// The classes that were numbered.
 ///
-/// Contracts see their keys, in the order in which they came.
+/// Contracts see their keys, in the order of their numbers.
 #[derive(Drop)]
 pub struct Numbers {
-    // With each key its number.
+    // The number of each key.
     by_key: BTreeMap<Vec<u8>, u32>,
 }
 
@@ -32,7 +32,7 @@ impl Model for Numbers {
 }
 
 impl Numbers {
-    /// No class has come yet. It takes no memory.
+    /// No class. It takes no memory.
     pub fn new(alloc: Global) -> Numbers
         ensures { result ≡ [] }
     {
@@ -41,8 +41,11 @@ impl Numbers {
         }
     }
 
-    /// The number of a set of bytes, which is one that came before or comes now: at least 261, and below 4,294,967,295. `AllocError` is answered
-    /// where memory ran out, or where no number is left.
+    /// The number of a set of bytes, which is given one if it has none yet: at least 261 for a class, and below 4,294,967,295.
+    ///
+    /// # Errors
+    ///
+    /// Where memory runs out, and where no number is left.
     pub fn of_set(&mut self, alloc: Global, set: &ByteSet) -> Result<u32, AllocError>
         ensures number { IfOk result (λ number. number_of_set self.new set.now ≡ Some number) }
         ensures within { IfOk result (λ number. number < most_number) }
@@ -55,7 +58,7 @@ impl Numbers {
         }
     }
 
-    // The number of a key that came before.
+    // The number of a key that has one.
     fn known(&self, key: &[u8]) -> Option<u32>
         ensures number { result ≡ number_from first_set key.now self.now }
         ensures within { IfSome result (λ number. number < most_number) }
@@ -63,7 +66,7 @@ impl Numbers {
         self.by_key.get(key).copied()
     }
 
-    // The number of a key that comes now.
+    // Gives a new key the next number.
     fn add(&mut self, key: Vec<u8>) -> Result<u32, AllocError>
         requires { number_from first_set key.items self.old ≡ None }
         ensures number { IfOk result (λ number. number_from first_set key.items self.new ≡ Some number) }
@@ -76,7 +79,7 @@ impl Numbers {
     }
 }
 
-// The number of the class behind so many, if one is left.
+// The number of the class after so many, if one is left.
 fn number_after(count: usize) -> Result<u32, AllocError>
     ensures number { IfOk result (λ number. number ≡ first_set + count) }
     ensures within { IfOk result (λ number. number < most_number) }
@@ -87,7 +90,7 @@ fn number_after(count: usize) -> Result<u32, AllocError>
     }
 }
 
-// Puts the first and the last byte of a range behind a key.
+// Appends the first and the last byte of a range to a key.
 fn put_range(key: &mut Vec<u8>, range: ByteRange) -> Result<(), AllocError>
     ensures { OnOk result (key.new.items ≡ key.old.items ++ ends_of (range ∷ [])) }
 {
@@ -96,7 +99,7 @@ fn put_range(key: &mut Vec<u8>, range: ByteRange) -> Result<(), AllocError>
     Ok(())
 }
 
-// Puts the first and the last byte of each range behind a key.
+// Appends the first and the last byte of each range to a key.
 fn put_ranges(key: &mut Vec<u8>, ranges: &[ByteRange]) -> Result<(), AllocError>
     ensures { OnOk result (key.new.items ≡ key.old.items ++ ends_of ranges.now) }
 {
@@ -106,7 +109,7 @@ fn put_ranges(key: &mut Vec<u8>, ranges: &[ByteRange]) -> Result<(), AllocError>
     Ok(())
 }
 
-// The key of a set of bytes: nothing for those within a segment, and for a class whether it is negated, and then its ranges.
+// The key of a set of bytes: empty for those within a segment; for a class, whether it is negated, and then its ranges.
 fn key_of(alloc: Global, set: &ByteSet) -> Result<Vec<u8>, AllocError>
     ensures { IfOk result (λ key. key.items ≡ key_of set.now) }
 {

@@ -1,4 +1,4 @@
-//! The tree.
+//! The tree of the beginnings of patterns: which place follows a place by the number of an element.
 
 ghost use Rattle.std.specs.Prelude.{◌≡◌, ◌<◌, ◌+◌, length, None, IfOk, OnOk};
 ghost use Rattle.aa_glob.specs.Tree.{HasNoWay, HasOneMore, key, next, nowhere, places};
@@ -14,21 +14,21 @@ const NO_NUMBER: u32 = u32::MAX;
 // Two numbers as one.
 const NUMBERS: u64 = 1 << 32;
 
-// What is noted of a place behind which none is found.
+// What is kept for a place that no place follows.
 const NOTHING: u16 = 65_535;
 
-// What is noted of a place behind which others alone are found.
+// What is kept for a place whose followers are all in the map.
 const OTHERS_ALONE: u16 = 65_534;
 
-/// Places from 0 on, of which each but the first stands behind an earlier one and is found there by a number.
+/// Places from 0 on, of which each but the first follows an earlier one and is found from there by a number.
 ///
-/// Contracts see how many places there are, and which place is found behind a place by a number. A place takes two bytes. One takes an entry
-/// of a map too, if it wasn't added directly after the place that it stands behind, or is found by a number from 65,534 on.
+/// Contracts see how many places there are, and which place follows a place by a number. A place takes two bytes. It takes an entry of a map, too,
+/// if it wasn't added directly after the place that it follows, or is found by a number from 65,534 on.
 #[derive(Drop)]
 pub struct Tree {
-    // For each place, by which number the place behind it is found that was added directly after it, or that none is.
+    // For each place the number by which the place that was added directly after it follows it, or that none does.
     on: Vec<u16>,
-    // The other places, by the place that they stand behind and their number.
+    // The other places, by the place that they follow and their number.
     others: BTreeMap<u64, u32>,
 }
 
@@ -45,7 +45,11 @@ impl Model for Tree {
 }
 
 impl Tree {
-    /// The first place alone, or `AllocError` where memory ran out.
+    /// The first place alone.
+    ///
+    /// # Errors
+    ///
+    /// Where memory runs out.
     pub fn new(alloc: Global) -> Result<Tree, AllocError>
         ensures places { IfOk result (λ tree. places tree ≡ 1) }
         ensures ways { IfOk result (λ tree. HasNoWay tree) }
@@ -65,7 +69,7 @@ impl Tree {
         self.on.len()
     }
 
-    /// The place behind a place that is found by a number, other than `NO_NUMBER`. It takes no memory.
+    /// The place that follows a place by a number, other than `NO_NUMBER`. It takes no memory.
     pub fn next(&self, place: u32, number: u32) -> Option<u32>
         requires { number < nowhere }
         ensures { result ≡ next self.now place number }
@@ -81,8 +85,12 @@ impl Tree {
         }
     }
 
-    /// Adds a place behind a place, where none is found by this number yet: the new place, which is the count of those before it. The number
-    /// isn't `NO_NUMBER`. `AllocError` is answered where memory ran out, or where there are 4,294,967,295 places already.
+    /// Adds a place that follows a place by a number, by which none follows it yet, and returns the new place: how many there were before. The
+    /// number isn't `NO_NUMBER`.
+    ///
+    /// # Errors
+    ///
+    /// Where memory runs out, and where there are 4,294,967,295 places already.
     pub fn add(&mut self, place: u32, number: u32) -> Result<u32, AllocError>
         requires there { place < places self.now }
         requires number { number < nowhere }
@@ -111,7 +119,7 @@ impl Tree {
     }
 }
 
-// Notes of a place of which nothing is noted yet that others are found behind it.
+// Notes for a place for which nothing is noted yet that its followers are in the map.
 fn note_others(on: &mut Vec<u16>, place: usize)
     requires { place < length on.old.items }
     ensures { NotesOthers on.old.items place on.new.items }

@@ -16,13 +16,13 @@ use std::marker::Model;
 // A group that is open.
 #[derive(Drop)]
 struct Group {
-    // The state behind its brace.
+    // The state after its brace.
     beginning: u32,
     // The states before its commas.
     ends: Vec<u32>,
 }
 
-/// Where the walk of a pattern has come. Contracts see the state, and the groups that are open there, the innermost first.
+/// Where the walk of a pattern is. Contracts see the state, and the groups that are open there, the innermost first.
 #[derive(Drop)]
 pub struct Walk {
     state: u32,
@@ -49,14 +49,14 @@ impl Walk {
         }
     }
 
-    /// The state where it has come.
+    /// The state where the walk is.
     pub fn state(&self) -> u32
         ensures { result ≡ self.now.state }
     {
         self.state
     }
 
-    /// Goes on to a state, over an element.
+    /// Moves to a state, along an element.
     ///
     /// # Errors
     ///
@@ -95,11 +95,11 @@ impl Walk {
         Ok(())
     }
 
-    /// Draws the ways to a state from those from which an element is reached.
+    /// Adds the ways to a state from those from which an element is reached.
     ///
     /// # Errors
     ///
-    /// Where memory runs out. Some of them may be drawn then.
+    /// Where memory runs out. Some of them may be added then.
     pub fn draw_to(
         &self,
         element: Element<'_>,
@@ -117,7 +117,7 @@ impl Walk {
         }
     }
 
-    // Draws the way from the beginning of the innermost group's alternatives.
+    // Adds the way from the state at which the innermost group's alternatives begin.
     fn draw_from_beginning(&self, drawing: &mut Drawing, state: u32) -> Result<(), AllocError>
         requires from { All (λ q. q < length drawing.old.entries) (source_states Comma self.now) }
         requires to { state < length drawing.old.entries }
@@ -129,7 +129,7 @@ impl Walk {
         }
     }
 
-    // Draws the ways from the ends of the innermost group's alternatives, of which the last ends where the walk is.
+    // Adds the ways from the ends of the innermost group's alternatives, the last of which ends where the walk is.
     fn draw_from_ends(&self, drawing: &mut Drawing, state: u32) -> Result<(), AllocError>
         requires from { All (λ q. q < length drawing.old.entries) (source_states Close self.now) }
         requires to { state < length drawing.old.entries }

@@ -7,7 +7,7 @@ ghost use Rattle.aa_glob.specs.Ways.{AddsWays};
 use aa_glob_run::Drawing;
 use std::alloc::AllocError;
 
-/// Draws a way from a state to a state.
+/// Adds a way from a state to a state.
 ///
 /// # Errors
 ///
@@ -21,11 +21,11 @@ pub fn draw_way(drawing: &mut Drawing, from: u32, to: u32) -> Result<(), AllocEr
     Ok(())
 }
 
-/// Draws ways from each of some states to one.
+/// Adds ways from each of some states to one.
 ///
 /// # Errors
 ///
-/// Where memory runs out. Some of them may be drawn then.
+/// Where memory runs out. Some of them may be added then.
 pub fn draw_ways(drawing: &mut Drawing, from: &[u32], to: u32) -> Result<(), AllocError>
     requires from { All (λ q. q < length drawing.old.entries) from.now }
     requires to { to < length drawing.old.entries }

@@ -1,11 +1,11 @@
--- What it takes to come into a state from one that leads to it, and to stay there.
+-- The entry of a state: what it takes to enter it from a state that leads to it, and to stay in it.
 use Rattle.std.specs.Prelude.{ℕ, Bool, true, false, ◌==◌, not, Option, None, Some}
 use Rattle.aa_bytes.specs.ByteSets.{is_inside}
 use Rattle.aa_bytes.specs.ByteMaps.{in_map}
 use Rattle.aa_glob_nfa.specs.declared.entry.Entry.{Entry}
 use Rattle.aa_glob_nfa.specs.declared.entry.Entry.TheVariants.{Free, Byte, Inside, Class, Star, DoubleStar}
 
--- no byte is taken to come in
+-- the state is entered without a byte
 abbrev pub is_free : Entry → Bool
 is_free Free = true
 is_free (Byte b) = false
@@ -14,7 +14,7 @@ is_free (Class map) = false
 is_free Star = true
 is_free DoubleStar = true
 
--- the byte is one that is taken to come in
+-- the byte leads into the state
 abbrev pub takes_byte : Entry → ℕ → Bool
 takes_byte Free c = false
 takes_byte (Byte b) c = c == b
@@ -23,12 +23,12 @@ takes_byte (Class map) c = in_map map c
 takes_byte Star c = false
 takes_byte DoubleStar c = false
 
--- the byte is taken to come in, if there is one
+-- the byte leads into the state, if there is one
 abbrev pub takes_if : Option ℕ → Entry → Bool
 takes_if None entry = false
 takes_if (Some c) entry = takes_byte entry c
 
--- the byte leaves the state as it is
+-- the byte stays in the state
 abbrev pub stays_at : Entry → ℕ → Bool
 stays_at Free c = false
 stays_at (Byte b) c = false

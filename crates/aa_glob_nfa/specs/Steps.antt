@@ -1,16 +1,16 @@
 -- How much work a run was. A step is the visit of one state at one place of a text.
 use Rattle.std.specs.Prelude.{◌≡◌, ℕ, zero, suc, ◌+◌, ◌-◌, ◌*◌, ◌^◌, ◌≤◌, List, length, min}
 
--- the greatest count that is told
+-- the greatest count
 abbrev pub most_steps : ℕ
 most_steps = 2 ^ 128 - 1
 
--- a count to which steps are added stops at the greatest that is told
+-- a count to which steps are added, which saturates
 abbrev pub counted : ℕ → ℕ → ℕ
 counted old zero = old
 counted old (suc steps) = min (old + suc steps) most_steps
 
--- to a count were added so many steps at least, and so many at most
+-- at least so many and at most so many steps were added to a count
 abbrev pub IsCounted : ℕ → ℕ → ℕ → ℕ → Type 0
 IsCounted least most old new = (steps : ℕ) × (least ≤ steps) × (steps ≤ most) × (new ≡ counted old steps)
 

@@ -1,4 +1,4 @@
--- The tables of a graph: its states with their flags, and in tables of their own the ways, the sets of classes and the ends.
+-- The tables of a graph: its states with their flags, and separate tables of the ways, the sets of classes and the ends.
 use Rattle.std.specs.Prelude.{◌≡◌, ◌⊎◌, ℕ, suc, ◌+◌, ◌*◌, ◌^◌, ◌<◌, ◌≤◌, Bool, true, false, ◌==◌, ◌&&◌, ◌||◌, if◌then◌else◌, Option, None, Some, List, [], ◌∷◌, ◌++◌, length, map, slice_index_or, All, AllPairs, Contains}
 use Rattle.aa_glob_nfa.specs.Graphs.{Graph}
 use Rattle.aa_bytes.specs.declared.byte_map.ByteMap.{ByteMap}
@@ -10,14 +10,14 @@ use Rattle.aa_glob_nfa.specs.declared.state.Way.{Way}
 use Rattle.aa_glob_nfa.specs.declared.state.ClassRow.{ClassRow}
 use Rattle.aa_glob_nfa.specs.declared.state.End.{End}
 
--- A state: its gate, and flags that say where there is more of it: a way leads on to the next state; there are ways in the table; it's an end.
+-- A state: its gate, and flags for what more there is of it: a way leads to the next state; there are ways in the table; it's an end.
 pub record State : Type 0 where
   pub gate : Gate
   pub leads_on : Bool
   pub leads_away : Bool
   pub ends : Bool
 
--- the entry that a gate stands for, with this set if it is a class
+-- the entry that a gate means, with this set if it is a class
 abbrev pub entry_behind : Gate → ByteMap → Entry
 entry_behind Free set = FreeEntry
 entry_behind (Byte b) set = ByteEntry b
@@ -35,11 +35,11 @@ gate_of (ClassEntry set) = Class
 gate_of StarEntry = Star
 gate_of DoubleStarEntry = DoubleStar
 
--- the number of a way that no byte alone leads along
+-- the number of a way along which not just one byte leads
 abbrev pub no_byte : ℕ
 no_byte = 256
 
--- the byte that alone leads through a gate, or the number for none
+-- the byte that alone leads through a gate, or that number
 abbrev pub by_of : Gate → ℕ
 by_of Free = no_byte
 by_of (Byte b) = b
@@ -48,7 +48,7 @@ by_of Class = no_byte
 by_of Star = no_byte
 by_of DoubleStar = no_byte
 
--- where a way stands in its table: by its state, and then by its byte
+-- the key by which ways are sorted: by the state, and then by the byte
 abbrev pub order_of : Way → ℕ
 order_of way = way.from * 512 + way.by
 
@@ -66,7 +66,7 @@ abbrev pub entries_in : List ClassRow → ℕ → List State → List Entry
 entries_in classes q [] = []
 entries_in classes q (state ∷ states) = entry_behind state.gate (set_of classes q) ∷ entries_in classes (suc q) states
 
--- the ways that lead on from a state to the next
+-- the ways that lead from a state to the next one
 abbrev pub ways_on : ℕ → List State → List (ℕ × ℕ)
 ways_on q [] = []
 ways_on q (state ∷ states) = if state.leads_on then (q, suc q) ∷ ways_on (suc q) states else ways_on (suc q) states
@@ -97,7 +97,7 @@ sets_in q (ClassEntry set) = record { state = q; map = set } ∷ []
 sets_in q StarEntry = []
 sets_in q DoubleStarEntry = []
 
--- a state with the flag that a way leads on
+-- a state with the flag that a way leads to the next one
 abbrev pub leading_on : State → State
 leading_on state = record state { leads_on = true }
 
@@ -109,7 +109,7 @@ ending state = record state { ends = true }
 abbrev pub leading_away : State → State
 leading_away state = record state { leads_away = true }
 
--- a way is between states, by the right byte, and the state that it leads from is flagged
+-- a way is between states, by the right byte, and the state from which it leads is flagged
 pub record IsWay (states : List State) (way : Way) : Type 0 where
   pub from : way.from < length states
   pub to : way.to < length states
@@ -127,7 +127,7 @@ pub record IsSound (states : List State) (ways : List Way) (classes : List Class
   pub each_class : All (λ c. c.state < length states) classes
   pub each_end : All (λ e. (state_at states e.state).ends ≡ true) ends
 
--- a way leads on from the state q to another
+-- a way leads from the state q to another, which is the next one
 abbrev pub LeadsOn : List State → ℕ → ℕ → Type 0
 LeadsOn states q r = ((state_at states q).leads_on ≡ true) × (r ≡ q + 1)
 
@@ -146,11 +146,11 @@ abbrev pub is_byte : ℕ → Option ℕ → Bool
 is_byte number None = false
 is_byte number (Some c) = c == number
 
--- a way may lead from the state q when the byte comes, or none: it has no byte of its own, or it has this one
+-- a way may lead from the state q by this byte, or by none: it has no byte of its own, or it has this one
 abbrev pub may_lead : ℕ → Option ℕ → Way → Bool
 may_lead q byte way = way.from == q && (way.by == no_byte || is_byte way.by byte)
 
--- two parts of some ways have each that may lead from the state q when the byte comes, or none
+-- two parts of some ways have each that may lead from the state q by this byte, or by none
 pub record AreLeaving (ways : List Way) (q : ℕ) (byte : Option ℕ) (any own : List Way) : Type 0 where
   pub only_any : All (Contains ways) any
   pub only_own : All (Contains ways) own

@@ -1,4 +1,4 @@
--- How the tables of a graph are kept: states in two bytes, and where the ways of each block of them begin.
+-- How the tables of a graph are stored: states in two bytes, and where the ways of each block of them begin.
 pub mod Blocks
 pub mod Marks
 pub mod PackedStates

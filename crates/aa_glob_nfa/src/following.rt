@@ -1,4 +1,4 @@
-//! Which states live before a text, and which behind a byte of those that live before it.
+//! Which states are live before a text, and which after a byte.
 
 ghost use Rattle.std.specs.Prelude.{◌≡◌, [], ℕ, List, length, IfOk};
 ghost use Rattle.aa_glob_nfa.specs.OfTables.{AreSound, AreSorted, graph_of};
@@ -11,7 +11,7 @@ use crate::steps::Steps;
 use crate::tables::Tables;
 use std::alloc::{AllocError, Global};
 
-// All states that live at a place, of those that its last byte brought.
+// All states that are live at a place, given those that its last byte led into.
 fn close(alloc: Global, tables: &Tables, brought: Front) -> Result<Vec<u32>, AllocError>
     requires sound { AreSound tables.now }
     requires sorted { AreSorted tables.now }
@@ -25,7 +25,7 @@ fn close(alloc: Global, tables: &Tables, brought: Front) -> Result<Vec<u32>, All
     Ok(here.into_states())
 }
 
-/// The states that live before a text.
+/// The states that are live before a text.
 ///
 /// # Errors
 ///
@@ -41,7 +41,7 @@ pub fn first(alloc: Global, tables: &Tables) -> Result<Vec<u32>, AllocError>
     close(alloc, tables, here)
 }
 
-/// The states that live behind a byte, of those that live before it.
+/// The states that are live after a byte, given those that are live before it.
 ///
 /// # Errors
 ///

@@ -1,4 +1,4 @@
-//! The states that live at one place of a text.
+//! The states that are live at one place of a text.
 
 ghost use Rattle.std.specs.Prelude.{◌≡◌, ℕ, ◌*◌, ◌<◌, ◌≤◌, not, ◌&&◌, ◌||◌, [], length, All, IfOk, OnOk, slice_get, Some};
 ghost use Rattle.aa_bytes.specs.Bits.{has_bit};
@@ -9,20 +9,20 @@ use aa_bytes::{clear_bit, has_bit, set_bit};
 use std::alloc::{AllocError, Global};
 use std::marker::Model;
 
-// For how many states there is room at first.
+// The initial capacity, in states.
 const FIRST: usize = 64;
 
-// Up to so many states are looked through. Seldom more live, and bits for all states would have to be cleared for each run.
+// Up to so many states are searched one by one. More are seldom live, and bits for all states would have to be cleared for each run.
 const FEW: usize = 16;
 
-/// States in the order in which they were found, none twice, all of them below a number. Contracts see both, the states and that number.
+/// A set of states in the order in which they were found, all of them below a bound. Contracts see both, the states and the bound.
 #[derive(Drop)]
 pub struct Front {
     alloc: Global,
     states: Vec<u32>,
-    // Once there were more than a few, a bit for each that is among them. None before.
+    // Once there were more than a few states, a bit for each number below the bound, set for those in the set. Empty before.
     members: Vec<u64>,
-    // What each is below.
+    // The bound: every state is less than this.
     room: usize,
 }
 
@@ -38,7 +38,7 @@ impl Model for Front {
 }
 
 impl Front {
-    /// No states, of those below a number. The list grows as they come.
+    /// The empty set of states below a bound.
     ///
     /// # Errors
     ///
@@ -54,7 +54,7 @@ impl Front {
         })
     }
 
-    /// These states, which are below a number, none twice.
+    /// The set of these states, which are below the bound, none twice.
     ///
     /// # Errors
     ///
@@ -71,7 +71,7 @@ impl Front {
         })
     }
 
-    /// The states, as a list of their own. It takes no memory.
+    /// The states as a vector. It takes no memory.
     pub fn into_states(self) -> Vec<u32>
         ensures states { result.items ≡ self.states }
         ensures live { IsLive self.room result.items }
@@ -105,7 +105,7 @@ impl Front {
         self.states[at]
     }
 
-    // Whether a state is among them.
+    // Whether a state is in the set.
     fn has(&self, state: u32) -> bool
         requires { state < self.now.room }
         ensures { result ≡ is_in state self.now.states }
@@ -117,11 +117,11 @@ impl Front {
         }
     }
 
-    /// Puts a state behind the others, if it isn't among them.
+    /// Appends a state, if it isn't in the set.
     ///
     /// # Errors
     ///
-    /// Where memory runs out. Which states there are then is not said.
+    /// Where memory runs out. Nothing is promised then about the states in the set.
     pub fn insert(&mut self, state: u32) -> Result<(), AllocError>
         requires { state < self.old.room }
         ensures { OnOk result (self.new ≡ with_state state self.old) }
@@ -138,7 +138,7 @@ impl Front {
         Ok(())
     }
 
-    /// Takes all states out. What was never put in isn't touched, and the memory stays.
+    /// Removes all states. `O(n)` in the number of states that were in the set, and its memory is kept.
     pub fn clear(&mut self)
         ensures { self.new ≡ record self.old { states = [] } }
     {
@@ -148,11 +148,11 @@ impl Front {
         self.states.clear();
     }
 
-    /// Puts these states, which are below its number, none twice, in place of those that it has. Its memory serves for them, as far as it reaches.
+    /// Replaces the states of the set by these, which are below the bound, none twice. The memory of the set is used again, as far as it suffices.
     ///
     /// # Errors
     ///
-    /// Where memory runs out. Which states there are then is not said.
+    /// Where memory runs out. Nothing is promised then about the states in the set.
     pub fn fill(&mut self, states: &[u32]) -> Result<(), AllocError>
         requires { IsLive self.old.room states.now }
         ensures { OnOk result (self.new ≡ record { states = states.now; room = self.old.room }) }
@@ -166,7 +166,7 @@ impl Front {
     }
 }
 
-// Whether a state is among others.
+// Whether a state is in a list.
 fn is_among(state: u32, states: &[u32]) -> bool
     ensures { result ≡ is_in state states.now }
 {
@@ -178,7 +178,7 @@ fn is_among(state: u32, states: &[u32]) -> bool
     false
 }
 
-// A bit for each number below one, set for some of them.
+// A bit for each number below a bound, set for these.
 fn marked(alloc: Global, room: usize, states: &[u32]) -> Result<Vec<u64>, AllocError>
     requires { All (λ r. r < room) states.now }
     ensures { IfOk result (λ members. AreMarked states.now room members.items) }

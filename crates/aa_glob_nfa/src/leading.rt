@@ -1,4 +1,4 @@
-//! Where a state that lives leads, without a byte and behind one.
+//! Where a live state leads, without a byte and by one.
 
 ghost use Rattle.std.specs.Prelude.{◌≡◌, ◌<◌, length, All, OnOk};
 ghost use Rattle.aa_glob_nfa.specs.Entries.{is_free};
@@ -12,7 +12,8 @@ use crate::state::Way;
 use crate::tables::Tables;
 use std::alloc::AllocError;
 
-// Visits a state: puts what comes from it freely into its own front, and what follows behind the byte, if one comes, into the next.
+// Visits a state: inserts what it leads to without a byte into its own front, and what it leads to by the byte, if there is one, into the next
+// front.
 #[inline(always)]
 pub fn visit(
     tables: &Tables,
@@ -34,7 +35,7 @@ pub fn visit(
     }
 }
 
-// Enters the next state, if a way leads on to it.
+// Enters the next state, if the state has a way to it.
 fn lead_on(
     tables: &Tables,
     from: u32,
@@ -53,7 +54,7 @@ fn lead_on(
     }
 }
 
-// Enters states by the ways of the table, if there are some.
+// Enters states along the ways of the table, if the state has any there.
 fn lead_away(
     tables: &Tables,
     from: u32,
@@ -72,7 +73,7 @@ fn lead_away(
     }
 }
 
-// The same by those ways. It stands by itself, since most states have none.
+// Enters states along the ways of the table. A function of its own, since most states have none.
 #[inline(never)]
 fn lead_by_table(
     tables: &Tables,
@@ -89,7 +90,7 @@ fn lead_by_table(
     lead_by(tables, leaving.own, from, byte, here, next)
 }
 
-// The same by those of some ways that lead from the state.
+// Enters states along those of these ways that lead from the state.
 fn lead_by(
     tables: &Tables,
     ways: &[Way],
@@ -110,7 +111,7 @@ fn lead_by(
     Ok(())
 }
 
-// Puts a state into the first front if it is entered freely, and into the next if it is entered by the byte.
+// Inserts a state into the first front if it is entered without a byte, and into the next if it is entered by the byte.
 #[inline(always)]
 fn enter(
     tables: &Tables,
@@ -132,7 +133,7 @@ fn enter(
     }
 }
 
-// Puts a state into a front, if it stays when the byte comes.
+// Inserts a state into a front, if the byte stays in it.
 fn stay(tables: &Tables, number: u32, byte: u8, front: &mut Front) -> Result<(), AllocError>
     requires is_state { number < length tables.now.states }
     requires room { front.old.room ≡ length tables.now.states }

@@ -1,5 +1,6 @@
-//! Graphs of states as flat lists (what it takes to come into each state, the ways between states, and the ends of patterns), and runs of them over a
-//! text: the states that live together at a place, and how a byte leads from those at one to those at the next.
+//! Graphs of states as flat tables: the entry of each state (the bytes that lead into it), the ways (transitions) between states, and the ends of
+//! patterns; and runs of them over a text: the states that are live at a place, and how a byte leads from these to those at the next place. Nothing
+//! here knows of patterns' texts.
 #![tactic(auto)]
 
 mod entry;

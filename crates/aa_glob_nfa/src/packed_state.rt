@@ -1,4 +1,4 @@
-//! States in two bytes each.
+//! States packed into two bytes each.
 
 ghost use Rattle.std.specs.Prelude.{◌≡◌};
 ghost use Rattle.aa_glob_nfa.specs.code.PackedStates.{gate_numbered, state_of};
@@ -7,14 +7,15 @@ ghost use Rattle.aa_glob_nfa.specs.Tables.{bare, ending, leading_away, leading_o
 use crate::state::Gate;
 use aa_bytes::{byte_has_bit, byte_with_bit};
 
-// A state: the byte that leads into it, or its gate's number; and its flags, a bit for each.
+// A state: the byte that leads into it, or the number of its gate; and its flags, a bit each.
 #[derive(Clone, Copy)]
 pub struct PackedState {
     byte: u8,
     flags: u8,
 }
 
-// The flags, by their bits: the byte leads into the state; a way leads on to the next state; there are ways in the table; it's an end.
+// The flags, by their bits: whether `byte` is the byte that leads into the state; whether a way leads to the next state; whether there are ways in
+// the table; whether the state is an end.
 const BY_BYTE: u8 = 0;
 
 const LEADS_ON: u8 = 1;
@@ -38,7 +39,7 @@ impl PackedState {
         }
     }
 
-    // Its gate.
+    // The gate of the state.
     pub fn gate(self) -> Gate
         ensures { result ≡ (state_of self).gate }
     {
@@ -49,7 +50,7 @@ impl PackedState {
         }
     }
 
-    // Whether a way leads on.
+    // Whether a way leads to the next state.
     pub fn leads_on(self) -> bool
         ensures { result ≡ (state_of self).leads_on }
     {
@@ -63,14 +64,14 @@ impl PackedState {
         byte_has_bit(self.flags, LEADS_AWAY)
     }
 
-    // Whether it's an end.
+    // Whether the state is an end of a pattern.
     pub fn ends(self) -> bool
         ensures { result ≡ (state_of self).ends }
     {
         byte_has_bit(self.flags, ENDS)
     }
 
-    // The same with the flag that a way leads on.
+    // The state with the flag that a way leads to the next state.
     pub fn leading_on(self) -> PackedState
         ensures { state_of result ≡ leading_on (state_of self) }
     {
@@ -80,7 +81,7 @@ impl PackedState {
         }
     }
 
-    // The same with the flag that it's an end.
+    // The state with the flag that it is an end.
     pub fn ending(self) -> PackedState
         ensures { state_of result ≡ ending (state_of self) }
     {
@@ -90,7 +91,7 @@ impl PackedState {
         }
     }
 
-    // The same with the flag that there are ways in the table.
+    // The state with the flag that there are ways in the table.
     pub fn leading_away(self) -> PackedState
         ensures { state_of result ≡ leading_away (state_of self) }
     {

@@ -14,15 +14,15 @@ use crate::tables::Tables;
 use std::alloc::AllocError;
 use std::mem::swap;
 
-/// Finds the states that are reached behind a text. Both fronts have room for all states and are empty before; these states are in `here` then,
-/// and what `next` has is not said.
+/// Finds the states that are reached by a text. Both fronts are empty before and have room for all states; afterwards `here` has the states that are
+/// reached, and nothing is promised about `next`.
 ///
-/// Steps are counted: one for each visit of a state at a place of the text, which are its bytes and its end. It ends at the first byte
-/// behind which no state is reached.
+/// Steps are counted: one for each visit of a state at a place of the text, which are its bytes and its end. The run stops at the first byte after
+/// which no state is reached.
 ///
 /// # Errors
 ///
-/// Where memory runs out. The steps at the places before are counted; which states the fronts have then is not said.
+/// Where memory runs out. The steps at the places before are counted; nothing is promised then about the states in the fronts.
 pub fn run(
     tables: &Tables,
     text: &[u8],
@@ -45,12 +45,12 @@ pub fn run(
     run_on(tables, text, 0, here, next, steps)
 }
 
-/// The same from a place of the text on, to which a run has come: what it promises is said of a count from before that run. `here` has the states that
-/// the last byte before the place brought.
+/// Continues a run from a place of the text on: the contract speaks of a count from before that run began. `here` has the states that the last byte
+/// before the place led into.
 ///
 /// # Errors
 ///
-/// Where memory runs out, as there.
+/// Where memory runs out, as for `run`.
 pub fn run_on(
     tables: &Tables,
     text: &[u8],
@@ -90,12 +90,12 @@ pub fn run_on(
     Ok(())
 }
 
-/// Visits each state that lives at a place, those among them that are found on the way. `here` has those that the last byte brought, and then all.
-/// What follows behind the byte, if one comes, is put into `next`, which is empty before. A step is counted for each visit.
+/// Visits each state that is live at a place, those that are found on the way included. `here` has those that the last byte led into, and afterwards
+/// all. What follows by the byte, if there is one, is inserted into `next`, which is empty before. A step is counted for each visit.
 ///
 /// # Errors
 ///
-/// Where memory runs out. No step is counted then; which states the fronts have is not said.
+/// Where memory runs out. No step is counted then; nothing is promised about the states in the fronts.
 #[inline(always)]
 pub fn pass(
     tables: &Tables,

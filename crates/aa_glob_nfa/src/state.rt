@@ -8,7 +8,7 @@ ghost use Rattle.aa_glob_nfa.specs.Entries.{is_free, stays_at};
 use crate::entry::Entry;
 use aa_bytes::{ByteMap, is_inside};
 
-/// What it takes to come into a state: its entry, but for a class's set.
+/// What it takes to enter a state: its entry without the set of a class.
 #[derive(Clone, Copy)]
 pub enum Gate {
     Free,
@@ -19,30 +19,30 @@ pub enum Gate {
     DoubleStar,
 }
 
-/// A way from a state to another, but for one that leads on to the next.
+/// A way (a transition) from a state to another. Ways to the next state are a flag of the state instead.
 #[derive(Clone, Copy)]
 pub struct Way {
     pub from: u32,
-    // The byte that leads into the other state, or a number that is no byte.
+    // The byte that leads into the other state, or `NO_BYTE`.
     pub by: u16,
     pub to: u32,
 }
 
-/// The set of a class, and the state that it leads into.
+/// The set of a class, and the state into which it leads.
 #[derive(Clone, Copy)]
 pub struct ClassRow {
     pub state: u32,
     pub map: ByteMap,
 }
 
-/// An end of a pattern.
+/// A state at which a pattern ends.
 #[derive(Clone, Copy)]
 pub struct End {
     pub state: u32,
     pub pattern: u32,
 }
 
-/// The number of a way that no byte alone leads along.
+/// The `by` of a way along which not just one byte leads.
 pub const NO_BYTE: u16 = 256;
 
 impl Gate {
@@ -60,7 +60,7 @@ impl Gate {
         }
     }
 
-    /// Whether no byte is taken to come in.
+    /// Whether a state with this gate is entered without a byte.
     pub fn is_free(self) -> bool
         ensures { (set : ByteMap) → result ≡ is_free (entry_behind self set) }
     {
@@ -70,7 +70,7 @@ impl Gate {
         }
     }
 
-    /// Whether a state with this gate stays when the byte comes.
+    /// Whether the byte stays in a state with this gate.
     pub fn stays(self, byte: u8) -> bool
         ensures { (set : ByteMap) → result ≡ stays_at (entry_behind self set) byte }
     {
@@ -81,7 +81,7 @@ impl Gate {
         }
     }
 
-    /// The byte that alone leads through it, or the number for none.
+    /// The one byte that leads through the gate, or `NO_BYTE`.
     pub fn by(self) -> u16
         ensures value { result ≡ by_of self }
         ensures within { result ≤ no_byte }
@@ -94,14 +94,14 @@ impl Gate {
 }
 
 impl Way {
-    /// Where it stands in the table: by its state, and then by its byte.
+    /// The key by which the table is sorted: by the state, and then by the byte.
     pub fn order(&self) -> u64
         ensures { result ≡ order_of self.now }
     {
         self.from as u64 * 512 + self.by as u64
     }
 
-    /// Whether it may lead from a state when the byte comes, or none: it has no byte of its own, or it has this one.
+    /// Whether the way may lead from a state by this byte, or by none: it has no byte of its own, or it has this one.
     pub fn may_lead(&self, from: u32, byte: Option<u8>) -> bool
         ensures { result ≡ may_lead from byte self.now }
     {

@@ -8,7 +8,7 @@ use crate::state::Gate;
 use std::alloc::{AllocError, Global};
 use std::marker::Model;
 
-/// States, of which each says where there is more of it in the other tables.
+/// The states, each with flags for what the other tables have of it.
 #[derive(Drop)]
 pub struct States {
     packed: Vec<PackedState>,
@@ -25,7 +25,7 @@ impl Model for States {
 }
 
 impl States {
-    /// No states.
+    /// No state. It takes no memory.
     pub fn new(alloc: Global) -> States
         ensures { result ≡ [] }
     {
@@ -41,7 +41,11 @@ impl States {
         self.packed.len()
     }
 
-    /// Adds a state with this gate, without ways or ends. Where memory runs out, there is none more.
+    /// Appends a state with this gate, without ways or ends.
+    ///
+    /// # Errors
+    ///
+    /// Where memory runs out. The states are then unchanged.
     pub fn push(&mut self, gate: Gate) -> Result<(), AllocError>
         ensures added { OnOk result (self.new ≡ self.old ++ bare gate ∷ []) }
         ensures err { OnErr result (self.new ≡ self.old) }
@@ -50,7 +54,7 @@ impl States {
         Ok(())
     }
 
-    /// Gives back what room there is beyond the states.
+    /// Gives back unused capacity.
     pub fn shrink(&mut self)
         ensures { self.new ≡ self.old }
     {
@@ -65,7 +69,7 @@ impl States {
         self.packed[number as usize].gate()
     }
 
-    /// Whether a way leads on from a state.
+    /// Whether a way leads from a state to the next one.
     pub fn leads_on(&self, number: u32) -> bool
         requires { number < length self.now }
         ensures { result ≡ (state_at self.now number).leads_on }
@@ -89,7 +93,7 @@ impl States {
         self.packed[number as usize].ends()
     }
 
-    /// Notes that a way leads on from a state.
+    /// Sets the flag that a way leads from a state to the next one.
     pub fn lead_on(&mut self, number: u32)
         requires { number < length self.old }
         ensures { self.new ≡ set self.old number (leading_on (state_at self.old number)) }
@@ -98,7 +102,7 @@ impl States {
         self.packed[number as usize] = state;
     }
 
-    /// Notes that a state has ways in the table.
+    /// Sets the flag that a state has ways in the table.
     pub fn lead_away(&mut self, number: u32)
         requires { number < length self.old }
         ensures { self.new ≡ set self.old number (leading_away (state_at self.old number)) }
@@ -107,7 +111,7 @@ impl States {
         self.packed[number as usize] = state;
     }
 
-    /// Notes that a state is an end.
+    /// Sets the flag that a state is an end.
     pub fn end(&mut self, number: u32)
         requires { number < length self.old }
         ensures { self.new ≡ set self.old number (ending (state_at self.old number)) }

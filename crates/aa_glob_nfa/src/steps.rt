@@ -5,7 +5,7 @@ ghost use Rattle.aa_glob_nfa.specs.Steps.{counted};
 
 use std::marker::Model;
 
-/// A count of steps, of which each is the visit of one state at one place of a text. It stops at the greatest number that it can tell.
+/// A count of steps, each of which is a visit of one state at one place of a text. It saturates at `u128::MAX`.
 #[derive(Debug, Drop)]
 pub struct Steps {
     count: u128,
@@ -20,28 +20,28 @@ impl Model for Steps {
 }
 
 impl Steps {
-    /// No step yet.
+    /// A count of zero.
     pub fn new() -> Steps
         ensures { result ≡ 0 }
     {
         Steps { count: 0 }
     }
 
-    /// How many steps there were: `u128::MAX` stands for these or more.
+    /// How many steps were counted: `u128::MAX` stands for so many or more.
     pub fn count(&self) -> u128
         ensures { result ≡ self.now }
     {
         self.count
     }
 
-    /// A count of as many steps.
+    /// A copy of the count.
     pub fn as_many(&self) -> Steps
         ensures { result ≡ self.now }
     {
         Steps { count: self.count }
     }
 
-    /// Counts so many visits more, as far as the count has room for them.
+    /// Adds so many visits to the count, which saturates.
     pub fn visited(&mut self, states: usize)
         ensures { self.new ≡ counted self.old states }
     {

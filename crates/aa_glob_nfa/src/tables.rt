@@ -1,4 +1,4 @@
-//! The tables of a graph, and what is found in them.
+//! The tables of a graph, and look-ups in them.
 
 ghost use Rattle.std.specs.Prelude.{◌≡◌, ◌++◌, ◌+◌, ◌<◌, ◌≤◌, length, All, AllPairs, Contains, IfOk, OnErr, OnOk};
 ghost use Rattle.std.specs.List.{AllWithin};
@@ -22,7 +22,7 @@ use std::alloc::{AllocError, Global};
 pub struct Tables {
     pub states: States,
     pub ways: Vec<Way>,
-    // For each block of states where its ways begin, once they are in order.
+    // For each block of states the index of its first way, once the ways are sorted.
     pub firsts: Vec<u32>,
     pub classes: Vec<ClassRow>,
     pub ends: Vec<End>,
@@ -31,7 +31,11 @@ pub struct Tables {
 impl Tables {
     ghost use Rattle.aa_glob_nfa.specs.OfTables.{AreSound, AreSorted, graph_of};
 
-    /// The start alone, or `AllocError` where memory ran out.
+    /// The tables of the start alone.
+    ///
+    /// # Errors
+    ///
+    /// Where memory runs out.
     pub fn new(alloc: Global) -> Result<Tables, AllocError>
         ensures sound { IfOk result AreSound }
         ensures alone { IfOk result (λ tables. graph_of tables ≡ start_alone) }
@@ -49,8 +53,11 @@ impl Tables {
         })
     }
 
-    /// Adds a state with this entry, and tells its number. `AllocError` is answered where memory ran out, or where there are 2^32 - 1 states
-    /// already; what there is then is sound.
+    /// Adds a state with this entry, and returns its number.
+    ///
+    /// # Errors
+    ///
+    /// Where memory runs out, and where there are 2^32 - 1 states already; the tables are still sound then.
     pub fn add(&mut self, entry: &Entry) -> Result<u32, AllocError>
         requires { AreSound self.old }
         ensures sound { AreSound self.new }
@@ -68,7 +75,11 @@ impl Tables {
         Ok(number)
     }
 
-    /// Adds a way, which is a flag where it leads on to the next state. Where memory runs out, the graph is as it was.
+    /// Adds a way, which is a flag where it leads to the next state.
+    ///
+    /// # Errors
+    ///
+    /// Where memory runs out. The graph is then as it was.
     pub fn link(&mut self, from: u32, to: u32) -> Result<(), AllocError>
         requires sound { AreSound self.old }
         requires from { from < length self.old.states }
@@ -87,7 +98,11 @@ impl Tables {
         Ok(())
     }
 
-    /// Adds an end. Where memory runs out, the graph is as it was.
+    /// Makes a state an end of a pattern.
+    ///
+    /// # Errors
+    ///
+    /// Where memory runs out. The graph is then as it was.
     pub fn end(&mut self, state: u32, pattern: u32) -> Result<(), AllocError>
         requires sound { AreSound self.old }
         requires is_state { state < length self.old.states }
@@ -100,7 +115,7 @@ impl Tables {
         Ok(())
     }
 
-    /// Puts ways and ends in order, and finds where the ways of each block begin.
+    /// Sorts ways and ends, and finds where the ways of each block begin.
     pub fn sort(&mut self)
         requires { AreSound self.old }
         ensures sound { AreSound self.new }
@@ -112,7 +127,7 @@ impl Tables {
         find_firsts(&self.ways, &mut self.firsts);
     }
 
-    /// Gives back what room there is beyond what the tables hold.
+    /// Gives back the tables' unused capacity.
     pub fn shrink(&mut self)
         ensures states { self.new.states ≡ self.old.states }
         ensures ways { self.new.ways.items ≡ self.old.ways.items }
@@ -131,7 +146,7 @@ impl Tables {
 impl Tables {
     ghost use Rattle.aa_glob_nfa.specs.OfTables.{AreSound, AreSorted, graph_of};
 
-    /// Whether no byte is taken to come into a state.
+    /// Whether a state is entered without a byte.
     pub fn is_free(&self, number: u32) -> bool
         requires { number < length self.now.states }
         ensures { result ≡ is_free (entry_of (graph_of self.now) number) }
@@ -139,7 +154,7 @@ impl Tables {
         self.states.gate(number).is_free()
     }
 
-    /// Whether this byte is taken to come into a state, if there is one.
+    /// Whether a state is entered by this byte, if there is one.
     pub fn takes_if(&self, number: u32, byte: Option<u8>) -> bool
         requires sound { AreSound self.now }
         requires is_state { number < length self.now.states }
@@ -151,7 +166,7 @@ impl Tables {
         }
     }
 
-    /// Whether a state stays when the byte comes.
+    /// Whether the byte stays in a state.
     pub fn stays(&self, number: u32, byte: u8) -> bool
         requires { number < length self.now.states }
         ensures { result ≡ stays_at (entry_of (graph_of self.now) number) byte }
@@ -159,7 +174,7 @@ impl Tables {
         self.states.gate(number).stays(byte)
     }
 
-    /// The ways from the states of a state's block, its own among them, in their order.
+    /// The ways from the states of a state's block, its own included, in sorted order.
     pub fn ways_around(&self, from: u32) -> &[Way]
         requires { AreSorted self.now }
         ensures sorted { IsNonDecreasingBy order_of result.now }
@@ -169,7 +184,7 @@ impl Tables {
         ways_of_block(&self.ways, &self.firsts, from)
     }
 
-    /// The ways of the table by which states are entered from a state freely, or by the byte, if one comes. Others may be among them.
+    /// The ways of the table by which states are entered from a state without a byte, or by the byte, if there is one. Other ways may be among them.
     pub fn leaving(&self, from: u32, byte: Option<u8>) -> Leaving<'_>
         requires sound { AreSound self.now }
         requires sorted { AreSorted self.now }
@@ -178,7 +193,7 @@ impl Tables {
         leaving_among(self.ways_around(from), from, byte)
     }
 
-    /// The ends at a state.
+    /// The ends of patterns at a state.
     pub fn ends_of(&self, state: u32) -> &[End]
         requires sound { AreSound self.now }
         requires sorted { AreSorted self.now }
@@ -194,7 +209,7 @@ impl Tables {
     }
 }
 
-// Puts the set of a state's entry behind those of others, if it is a class.
+// Appends the set of a state's entry to the sets of classes, if the entry is a class.
 fn keep_set(classes: &mut Vec<ClassRow>, number: u32, entry: &Entry) -> Result<(), AllocError>
     ensures ok { OnOk result (classes.new.items ≡ classes.old.items ++ sets_in number entry.now) }
     ensures err { OnErr result (classes.new.items ≡ classes.old.items) }
@@ -208,7 +223,7 @@ fn keep_set(classes: &mut Vec<ClassRow>, number: u32, entry: &Entry) -> Result<(
     Ok(())
 }
 
-// Whether the byte is one that is taken to come into a state with this gate.
+// Whether the byte leads into a state with this gate.
 fn takes(gate: Gate, classes: &[ClassRow], number: u32, byte: u8) -> bool
     requires { AllPairs (λ a b. a.state < b.state) classes.now }
     ensures { result ≡ takes_byte (entry_behind gate (set_of classes.now number)) byte }
@@ -232,7 +247,7 @@ fn class_has(classes: &[ClassRow], state: u32, byte: u8) -> bool
     }
 }
 
-// Where the classes of states from this one on begin.
+// The index of the first class of a state that isn't less than this one.
 fn first_class(classes: &[ClassRow], state: u32) -> usize
     requires { IsNonDecreasingBy (λ c. c.state) classes.now }
     ensures within { result ≤ length classes.now }
@@ -253,7 +268,7 @@ fn ends_at(ends: &[End], state: u32) -> &[End]
     &ends[start..end]
 }
 
-// Where the ends of states from this number on begin.
+// The index of the first end whose state isn't less than this number.
 fn first_end(ends: &[End], state: u64) -> usize
     requires { IsNonDecreasingBy (λ e. e.state) ends.now }
     ensures within { result ≤ length ends.now }

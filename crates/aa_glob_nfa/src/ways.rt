@@ -1,4 +1,4 @@
-//! The table of ways, and what is found in it.
+//! The table of ways, and look-ups in it.
 
 ghost use Rattle.std.specs.Prelude.{◌≡◌, ◌<◌, ◌≤◌, length, All, Contains};
 ghost use Rattle.std.specs.List.{AllWithin};
@@ -13,19 +13,19 @@ use std::alloc::AllocError;
 // How many states a block has.
 const BLOCK: u32 = 8;
 
-// Up to so many ways are told as they are; among more, those of a state and a byte are found by halving.
+// Up to so many ways are returned as they are; among more, those of a state and a byte are found by binary search.
 const FEW: usize = 12;
 
-/// Ways that lead from a state when a byte comes, or none, maybe among others.
+/// Ways that lead from a state by a byte, or without one; other ways may be among them.
 #[derive(Clone, Copy)]
 pub struct Leaving<'a> {
-    /// Those without a byte of their own.
+    /// The ways without a byte of their own.
     pub any: &'a [Way],
-    /// Those of the byte. Where there are few ways, these stand among the first ones.
+    /// The ways of the byte. Where there are few ways, these are in `any`, too.
     pub own: &'a [Way],
 }
 
-/// Makes room for where the ways of a state's block begin, if the state is the block's first.
+/// Adds the entry in which the first way of a state's block is kept, if the state is the block's first.
 pub fn begin_block(firsts: &mut Vec<u32>, state: u32) -> Result<(), AllocError> {
     if state % BLOCK == 0 {
         firsts.push(u32::MAX)?;
@@ -33,7 +33,7 @@ pub fn begin_block(firsts: &mut Vec<u32>, state: u32) -> Result<(), AllocError> 
     Ok(())
 }
 
-/// Finds for each block of states where its ways begin.
+/// Finds the index of the first way of each block of states.
 pub fn find_firsts(ways: &[Way], firsts: &mut Vec<u32>)
     requires sorted { IsNonDecreasingBy order_of ways.now }
     requires each { All (λ w. w.by ≤ no_byte) ways.now }
@@ -44,7 +44,7 @@ pub fn find_firsts(ways: &[Way], firsts: &mut Vec<u32>)
     }
 }
 
-// Where the ways of this block of states begin, if a number of a place tells it.
+// The index of the first way of this block of states, or `u32::MAX` where it is no `u32`.
 fn first_of_block(ways: &[Way], block: usize) -> u32
     requires sorted { IsNonDecreasingBy order_of ways.now }
     requires each { All (λ w. w.by ≤ no_byte) ways.now }
@@ -56,7 +56,7 @@ fn first_of_block(ways: &[Way], block: usize) -> u32
     }
 }
 
-/// The ways from the states of a state's block, by the places where those of blocks begin.
+/// The ways from the states of a state's block, by the indices of the blocks' first ways.
 pub fn ways_of_block<'a>(ways: &'a [Way], firsts: &[u32], from: u32) -> &'a [Way]
     requires sorted { IsNonDecreasingBy order_of ways.now }
     requires firsts { AreFirsts ways.now firsts.now }
@@ -70,7 +70,7 @@ pub fn ways_of_block<'a>(ways: &'a [Way], firsts: &[u32], from: u32) -> &'a [Way
     &ways[start..end]
 }
 
-// The known place at an index or, where there is none, another.
+// The index kept at `at`, or another where none is known.
 fn place_or(places: &[u32], at: usize, other: usize) -> usize
     ensures { result ≡ place_or places.now at other }
 {
@@ -80,7 +80,7 @@ fn place_or(places: &[u32], at: usize, other: usize) -> usize
     }
 }
 
-/// Those of some ways, in their order, that may lead from a state when the byte comes, or none.
+/// Those of some sorted ways that may lead from a state by this byte, or by none.
 pub fn leaving_among(ways: &[Way], from: u32, byte: Option<u8>) -> Leaving<'_>
     requires sorted { IsNonDecreasingBy order_of ways.now }
     requires each { All (λ w. w.by ≤ no_byte) ways.now }
@@ -102,7 +102,7 @@ pub fn leaving_among(ways: &[Way], from: u32, byte: Option<u8>) -> Leaving<'_>
     }
 }
 
-// Those of some ways, in their order, that lead from a state by this number.
+// Those of some sorted ways that lead from a state by this number.
 fn ways_along(ways: &[Way], from: u32, by: u16) -> &[Way]
     requires sorted { IsNonDecreasingBy order_of ways.now }
     requires each { All (λ w. w.by ≤ no_byte) ways.now }
@@ -116,7 +116,7 @@ fn ways_along(ways: &[Way], from: u32, by: u16) -> &[Way]
     &ways[start..end]
 }
 
-// Where the ways from this place in their order on begin.
+// The index of the first way whose key isn't less than `order`.
 fn first_way(ways: &[Way], order: u64) -> usize
     requires { IsNonDecreasingBy order_of ways.now }
     ensures within { result ≤ length ways.now }

@@ -1,4 +1,4 @@
--- Which classes the patterns have that end at a state or behind it, as far as it matters whether two of them differ.
+-- Which classes the patterns have that end at a state or at one that it leads to, as far as it matters whether two of them differ.
 use Rattle.std.specs.Prelude.{◌≡◌, ℕ, Bool, true, false, not, ◌==◌}
 use Rattle.aa_glob_pairs.specs.declared.below.Below.{Below}
 use Rattle.aa_glob_pairs.specs.declared.below.Below.TheVariants.{Nothing, One, Several}

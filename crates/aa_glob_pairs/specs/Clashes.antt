@@ -2,17 +2,17 @@
 use Rattle.std.specs.Prelude.{◌≡◌, ◌⊎◌, ℕ, ◌<◌, ◌≤◌, Contains, List, Option, None, Some}
 use Rattle.aa_glob_pairs.specs.declared.ends.Ending.{Ending}
 
--- a pattern among some clashes with an earlier one among others: their classes differ
+-- a pattern of the second list clashes with an earlier one of the first: their classes differ
 abbrev pub Clash : List Ending → List Ending → ℕ → Type 0
 Clash first second pattern =
     (e : Ending) × (f : Ending) × Contains first e × Contains second f × (e.class ≡ f.class → ⊥) × (e.pattern < f.pattern) × (f.pattern ≡ pattern)
 
--- the least number of a kind, or none where there is none of it
+-- the least number of a kind, or `None` where there is none
 abbrev pub IsLeast : Option ℕ → (ℕ → Type 0) → Type 0
 IsLeast None Kind = (k : ℕ) → Kind k → ⊥
 IsLeast (Some least) Kind = Kind least × ((k : ℕ) → Kind k → least ≤ k)
 
--- there is a number, and it isn't above this one
+-- there is a number, and it isn't greater than this one
 abbrev pub IsAtMost : Option ℕ → ℕ → Type 0
 IsAtMost found k = (least : ℕ) × (found ≡ Some least) × (least ≤ k)
 

@@ -38,7 +38,7 @@ pub record IsLaid (g : Graph) : Type 0 where
 abbrev pub GoesFreely : Graph → ℕ → ℕ → Type 0
 GoesFreely g q x = Leads g q x × IsFree g x
 
--- a byte brings a state from another, or leaves it as it is
+-- a byte leads from a state into another, or stays in it
 abbrev pub Goes : Graph → ℕ → ℕ → ℕ → Type 0
 Goes g c q x = (Leads g q x × Takes g x c) ⊎ ((x ≡ q) × Stays g q c)
 
@@ -51,8 +51,8 @@ pub record AreMoves (g : Graph) (q : ℕ) (m : Moves) : Type 0 where
 abbrev pub AreEndingsOf : Graph → List ℕ → ℕ → List Ending → Type 0
 AreEndingsOf g classes q endings = (e : Ending) → (Contains endings e ↔ (EndsAt g q e.pattern × (e.class ≡ class_at classes e.pattern)))
 
--- These are the classes below a state, by those below the states to which it leads: they cover the patterns that end there, and include what is below
--- each of these states.
+-- These are the classes below a state, by those below the states to which it leads: they cover the patterns that end there, and include the classes
+-- below each of these states.
 pub record IsBelowAt (g : Graph) (classes : List ℕ) (belows : List Below) (q : ℕ) (below : Below) : Type 0 where
   pub own : (p : ℕ) → EndsAt g q p → Covers below (class_at classes p)
   pub on : (x : ℕ) → Leads g q x → Includes below (slice_index_or belows x Nothing)
@@ -62,7 +62,7 @@ pub record AreBelow (g : Graph) (classes : List ℕ) (belows : List Below) : Typ
   pub count : length belows ≡ length g.entries
   pub each : (q : ℕ) → q < length g.entries → IsBelowAt g classes belows q (slice_index_or belows q Nothing)
 
--- this is a state
+-- a node is this state's
 pub record IsNodeOf (g : Graph) (classes : List ℕ) (q : ℕ) (n : Node) : Type 0 where
   pub moves : AreMoves g q n.moves
   pub ends : AreEndingsOf g classes q n.ends.items

@@ -1,4 +1,4 @@
--- The pairs of states that one text reaches, as far as patterns of different classes may end behind them.
+-- The pairs of states that one text reaches, as far as patterns of different classes may end after them.
 use Rattle.std.specs.Prelude.{◌≡◌, ◌⊎◌, ℕ, ◌^◌, ◌<◌, true, List, length, slice_index_or}
 use Rattle.aa_glob_nfa.specs.Graphs.{EndsAt, Graph}
 use Rattle.aa_glob_nfa.specs.OfTables.{AreSorted, AreSound, graph_of}
@@ -14,27 +14,27 @@ pub record Classed : Type 0 where
   pub classes : List ℕ
   pub belows : List Below
 
--- the one of some tables
+-- the graph of some tables, with these classes
 abbrev pub classed : Tables → List ℕ → List Below → Classed
 classed tables classes belows = record { graph = graph_of tables; classes = classes; belows = belows }
 
 abbrev pub states_of : Classed → ℕ
 states_of g = length g.graph.entries
 
--- some pattern behind one state may clash with one behind another
+-- some pattern after one state may clash with one after another
 abbrev pub MayClash : Classed → ℕ → ℕ → Type 0
 MayClash g q r = can_clash (slice_index_or g.belows q Nothing) (slice_index_or g.belows r Nothing) ≡ true
 
--- a pair comes of another: one state goes freely and the other waits, or both go by one byte
+-- a pair follows from another in the graph: one state moves without a byte and the other stays, or both move by one byte
 abbrev pub GoTogether : Graph → ℕ → ℕ → ℕ → ℕ → Type 0
 GoTogether g q r x y =
     (GoesFreely g q x × (y ≡ r)) ⊎ (((x ≡ q) × GoesFreely g r y) ⊎ ((c : ℕ) × (c < 2 ^ 8) × Goes g c q x × Goes g c r y))
 
--- A pair follows from another. What comes of one behind whose states no pattern clashes with another doesn't matter.
+-- A pair follows from another. What follows from a pair after whose states no patterns clash doesn't matter.
 abbrev pub Follows : Classed → ℕ → ℕ → ℕ → ℕ → Type 0
 Follows g q r x y = (q < states_of g) × (r < states_of g) × MayClash g q r × GoTogether g.graph q r x y
 
--- The pairs that are met: the start beside itself, and what follows from pairs that are met.
+-- The pairs that are met: the start with itself, and what follows from pairs that are met.
 pub data Met (g : Classed) : ℕ → ℕ → Type 0 where
   start : Met g 0 0
   goes : {q r x y : ℕ} → Met g q r → Follows g q r x y → Met g x y
@@ -44,17 +44,17 @@ abbrev pub ClashOf : Classed → ℕ → ℕ → ℕ → Type 0
 ClashOf g q r pattern =
     (other : ℕ) × EndsAt g.graph q other × EndsAt g.graph r pattern × (class_at g.classes other ≡ class_at g.classes pattern → ⊥) × (other < pattern)
 
--- it does so at a pair that is met
+-- such a clash at a pair that is met
 abbrev pub MeetsAt : Classed → ℕ → Type 0
 MeetsAt g pattern = (q r : ℕ) × Met g q r × ClashOf g q r pattern
 
--- tables are sound and in order, and there is a class for each pattern that ends somewhere
+-- tables are sound and sorted, and there is a class for each pattern that ends somewhere
 pub record AreClassed (t : Tables) (classes : List ℕ) : Type 0 where
   pub sound : AreSound t
   pub sorted : AreSorted t
   pub each_pattern : (q p : ℕ) → EndsAt (graph_of t) q p → p < length classes
 
--- what pairs are looked at by: tables with classes, whose ways lead to later states, and the classes below each state
+-- what looking at pairs needs: tables with classes, whose ways lead to later states, and the classes below each state
 pub record AreReady (t : Tables) (classes : List ℕ) (belows : List Below) : Type 0 where
   pub classed : AreClassed t classes
   pub later : IsLaid (graph_of t)

@@ -1,21 +1,21 @@
-//! Which classes the patterns have that end at a state or behind it.
+//! Which classes the patterns have that end at a state or at one that it leads to.
 
 ghost use Rattle.std.specs.Prelude.{◌≡◌};
 ghost use Rattle.aa_glob_pairs.specs.Below.{Covers, Includes, can_clash};
 
-/// The classes of the patterns that end at a state or behind it, as far as it matters whether two of them differ.
+/// The classes of the patterns that end at a state or at one that it leads to, as far as it matters whether two of them differ.
 #[derive(Clone, Copy)]
 pub enum Below {
     /// No pattern ends there.
     Nothing,
     /// All that end there are of this class.
     One(u32),
-    /// They may be of any.
+    /// They may be of several classes.
     Several,
 }
 
 impl Below {
-    /// One class more.
+    /// These classes and one more.
     pub fn with(self, class: u32) -> Below
         ensures all { Includes result self }
         ensures one { Covers result class }
@@ -27,7 +27,7 @@ impl Below {
         }
     }
 
-    /// Those of another state, too.
+    /// These classes and those of another state.
     pub fn beside(self, other: Below) -> Below
         ensures first { Includes result self }
         ensures second { Includes result other }
@@ -39,8 +39,8 @@ impl Below {
         }
     }
 
-    /// Whether a pattern of one class may end at the first state or behind it, and one of another class at the second. Where none can, nothing that
-    /// follows from the pair matters.
+    /// Whether a pattern of one class may end at or after the first state, and one of another class at or after the second. Where none can, nothing
+    /// that follows from the pair matters.
     pub fn can_clash(self, other: Below) -> bool
         ensures { result ≡ can_clash self other }
     {

@@ -1,4 +1,4 @@
-//! Which classes the patterns have that end at each state of a graph or behind it.
+//! For each state of a graph which classes the patterns have that end at it or at one that it leads to.
 
 ghost use Rattle.std.specs.Prelude.{◌≡◌, ◌<◌, ℕ, All, Contains, length, replicate, set, slice_index_or, IfOk};
 ghost use Rattle.aa_glob_nfa.specs.OfTables.{AreSound, graph_of};
@@ -18,10 +18,10 @@ use std::marker::Model;
 // So many classes have a number of their own.
 const NUMBERED_CLASSES: u32 = 4_294_967_294;
 
-/// What is below each state of a graph, in four bytes each. Contracts see it as a list.
+/// The classes below each state of a graph, in four bytes a state. Contracts see a list.
 #[derive(Drop)]
 pub struct Belows {
-    // For each state the number of what is below it.
+    // For each state the number of the classes below it.
     numbers: Vec<u32>,
 }
 
@@ -36,7 +36,11 @@ impl Model for Belows {
 }
 
 impl Belows {
-    // Nothing below each of so many states; `AllocError` where memory ran out.
+    // No class below each of so many states.
+    //
+    // # Errors
+    //
+    // Where memory runs out.
     fn new(alloc: Global, states: usize) -> Result<Belows, AllocError>
         ensures { IfOk result (λ belows. belows ≡ replicate states Nothing) }
     {
@@ -44,7 +48,7 @@ impl Belows {
         Ok(Belows { numbers })
     }
 
-    /// What is below a state.
+    /// The classes below a state.
     pub fn at(&self, state: u32) -> Below
         requires { state < length self.now }
         ensures { result ≡ slice_index_or self.now state Nothing }
@@ -52,7 +56,7 @@ impl Belows {
         below_of(self.numbers[state as usize])
     }
 
-    // Puts what is below a state in the place of what was there.
+    // Replaces the classes below a state.
     fn put(&mut self, state: u32, below: Below)
         requires { state < length self.old }
         ensures { self.new ≡ set self.old state (as_kept below) }
@@ -61,7 +65,7 @@ impl Belows {
     }
 }
 
-// What is below a state, by its number.
+// The classes below a state, by their number.
 fn below_of(number: u32) -> Below
     ensures { result ≡ below_of number }
 {
@@ -72,7 +76,7 @@ fn below_of(number: u32) -> Below
     }
 }
 
-// The number of what is below a state.
+// The number of the classes below a state.
 fn number_of(below: Below) -> u32
     ensures { result ≡ number_of below }
 {
@@ -83,7 +87,7 @@ fn number_of(below: Below) -> u32
     }
 }
 
-// Those of patterns that end at a state.
+// The classes of the patterns that end at a state.
 fn of_ends(ends: &[End], classes: &[u32]) -> Below
     requires { All (λ e. e.pattern < length classes.now) ends.now }
     ensures { (e : End) → Contains ends.now e → Covers result (class_at classes.now e.pattern) }
@@ -95,7 +99,7 @@ fn of_ends(ends: &[End], classes: &[u32]) -> Below
     below
 }
 
-// Those of the state to which the way on from a state leads, too.
+// These classes and those below the next state, if a way leads there from the state.
 fn beside_next(below: Below, tables: &Tables, state: u32, belows: &Belows) -> Below
     requires sound { AreSound tables.now }
     requires is_state { state < length tables.now.states }
@@ -110,7 +114,7 @@ fn beside_next(below: Below, tables: &Tables, state: u32, belows: &Belows) -> Be
     }
 }
 
-// Those of the states to which some ways from a state lead, too.
+// These classes and those below the states to which those of these ways lead that lead from the state.
 fn beside_ways(below: Below, ways: &[Way], state: u32, belows: &Belows) -> Below
     requires { All (λ w. w.to < length belows.now) ways.now }
     ensures first { Includes result below }
@@ -123,7 +127,7 @@ fn beside_ways(below: Below, ways: &[Way], state: u32, belows: &Belows) -> Below
     all
 }
 
-// Those of the state to which a way leads, too, if it leads there from the state.
+// These classes and those below the state to which a way leads, if it leads there from the state.
 fn beside_way(below: Below, way: &Way, state: u32, belows: &Belows) -> Below
     requires { way.now.to < length belows.now }
     ensures first { Includes result below }
@@ -136,7 +140,7 @@ fn beside_way(below: Below, way: &Way, state: u32, belows: &Belows) -> Below
     }
 }
 
-// Those of a state, where those of all later ones are known.
+// The classes below a state, where those below all later states are known.
 fn below_at(tables: &Tables, classes: &[u32], state: u32, belows: &Belows) -> Below
     requires classed { AreClassed tables.now classes.now }
     requires is_state { state < length tables.now.states }
@@ -148,7 +152,11 @@ fn below_at(tables: &Tables, classes: &[u32], state: u32, belows: &Belows) -> Be
     beside_ways(below, tables.ways_around(state), state, belows)
 }
 
-/// Those of each state of a graph whose ways lead to later states, the last one first.
+/// The classes below each state of a graph whose ways lead to later states; they are found from the last state to the first.
+///
+/// # Errors
+///
+/// Where memory runs out.
 pub fn belows_of(alloc: Global, tables: &Tables, classes: &[u32]) -> Result<Belows, AllocError>
     requires classed { AreClassed tables.now classes.now }
     requires later { IsLaid (graph_of tables.now) }

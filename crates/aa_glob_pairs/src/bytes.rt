@@ -5,21 +5,21 @@ ghost use Rattle.aa_glob_pairs.specs.Bytes.{BothHave, in_bytes, IsShared};
 
 use aa_bytes::{ByteMap, is_inside};
 
-/// The bytes of a step.
+/// The set of the bytes of a step.
 #[derive(Clone, Copy)]
 pub enum Bytes {
     /// This one.
     One(u8),
-    /// Those within a segment of a path: neither zero nor `/`.
+    /// The bytes within a segment of a path: all but zero and `/`.
     Inside,
     /// All but zero.
     Any,
-    /// Those of this set.
+    /// The bytes of this set.
     Set(ByteMap),
 }
 
 impl Bytes {
-    // Whether a byte is among them.
+    // Whether a byte is in the set.
     fn has(&self, byte: u8) -> bool
         ensures { result ≡ in_bytes self.now byte }
     {
@@ -42,7 +42,7 @@ pub fn share(first: &Bytes, second: &Bytes) -> bool
     }
 }
 
-// The same, where the first has more bytes than one.
+// Whether two steps share a byte, where the first has more bytes than one.
 fn share_some(first: &Bytes, second: &Bytes) -> bool
     ensures { Decides result (IsShared first.now second.now) }
 {
@@ -52,7 +52,7 @@ fn share_some(first: &Bytes, second: &Bytes) -> bool
     }
 }
 
-// The same, byte by byte.
+// Whether two steps share a byte, found byte by byte.
 fn share_any(first: &Bytes, second: &Bytes) -> bool
     ensures { Decides result (IsShared first.now second.now) }
 {

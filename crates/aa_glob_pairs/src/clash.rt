@@ -11,8 +11,8 @@ use crate::meeting::least_clash;
 use aa_glob_nfa::Tables;
 use std::alloc::{AllocError, Global};
 
-/// The least place of a pattern that clashes with one at an earlier place: some text leads to ends of both, and their classes differ. `classes`
-/// has the class of each pattern, by its place.
+/// The least place (index) of a pattern that clashes with one at an earlier place, or `None`: some text leads to ends of both, and their classes
+/// differ. `classes` has the class of each pattern, by its place.
 ///
 /// # Errors
 ///

@@ -1,4 +1,4 @@
-//! Second states as bytes.
+//! Lists of states as bytes: each state as its difference from the one before.
 
 ghost use Rattle.std.specs.Prelude.{◌≡◌, ◌+◌, ◌++◌, ◌∷◌, ◌<◌, length, slice_get, OnErr, OnOk};
 ghost use Rattle.aa_glob_pairs.specs.code.Encoding.{IsEncoded, bytes_behind, bytes_of, decoded, is_near, state_at};
@@ -7,13 +7,17 @@ ghost use Rattle.aa_glob_pairs.specs.Places.{IsNext, StandsAt};
 use crate::place::Place;
 use std::alloc::AllocError;
 
-// The byte before the four of a state whose difference from the one before it isn't told by a byte.
+// The byte before the four bytes of a state that is no one-byte difference.
 const FAR: u8 = 255;
 
 // How many bytes a state takes at most.
 const LONGEST: usize = 5;
 
-/// Puts a state behind another one that came last; `AllocError` where memory ran out.
+/// Appends a state to an encoded list whose last state is `before`.
+///
+/// # Errors
+///
+/// Where memory runs out.
 pub fn push_state(bytes: &mut Vec<u8>, before: u32, state: u32) -> Result<(), AllocError>
     ensures ok { OnOk result (bytes.new.items ≡ bytes.old.items ++ bytes_behind before state) }
     ensures err { OnErr result (bytes.new.items ≡ bytes.old.items) }
@@ -27,7 +31,7 @@ pub fn push_state(bytes: &mut Vec<u8>, before: u32, state: u32) -> Result<(), Al
     }
 }
 
-// Makes room for a state, where there is none: an eighth of what is there already, since many long rows wait at once.
+// Makes room for a state, where there is none, by an eighth of the length, since many long rows wait at once.
 fn make_room(bytes: &mut Vec<u8>) -> Result<(), AllocError>
     ensures { bytes.new.items ≡ bytes.old.items }
 {
@@ -38,14 +42,14 @@ fn make_room(bytes: &mut Vec<u8>) -> Result<(), AllocError>
     }
 }
 
-// Whether a byte tells the difference of a state from the one before it.
+// Whether one byte encodes the difference of a state from the one before it.
 fn is_near(before: u32, state: u32) -> bool
     ensures { result ≡ is_near before state }
 {
     before <= state && state - before < FAR as u32
 }
 
-// The bytes of any state.
+// The five bytes that encode any state.
 fn far_bytes(state: u32) -> [u8; LONGEST]
     ensures { result ≡ 255 ∷ bytes_of state }
 {
@@ -58,7 +62,7 @@ fn far_bytes(state: u32) -> [u8; LONGEST]
     ]
 }
 
-/// The place behind the next state, if there is one.
+/// The place after the next state, if there is one. It takes no memory; `O(1)`.
 pub fn next_place(bytes: &[u8], place: Place) -> Option<Place>
     requires encoded { IsEncoded bytes.now }
     requires stands { StandsAt place (decoded 0 bytes.now) }
@@ -86,7 +90,7 @@ fn byte_at(bytes: &[u8], at: usize) -> Option<u8>
     bytes.get(at).copied()
 }
 
-// The state whose four bytes stand at an index.
+// The state whose four bytes are at an index.
 fn state_at(bytes: &[u8], at: usize) -> u32
     requires { at + 3 < length bytes.now }
     ensures { result ≡ state_at bytes.now at }

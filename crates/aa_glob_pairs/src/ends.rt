@@ -18,7 +18,11 @@ pub struct Ending {
     pub class: u32,
 }
 
-/// Puts the patterns that end at a state in the place of what was there; `AllocError` where memory ran out.
+/// Fills the vector with the patterns that end at a state, in place of its items.
+///
+/// # Errors
+///
+/// Where memory runs out.
 pub fn put_endings(
     tables: &Tables,
     classes: &[u32],
@@ -56,7 +60,7 @@ fn lower(first: &[Ending], second: &[Ending], found: &mut Option<u32>)
     }
 }
 
-// The same by one pattern of the first.
+// Lowers what was found to the least pattern of the second state that clashes with this earlier one of the first.
 fn lower_beside(ending: &Ending, second: &[Ending], found: &mut Option<u32>)
     ensures { Lowers found.old found.new (Clash (ending.now ∷ []) second.now) }
 {
@@ -65,7 +69,7 @@ fn lower_beside(ending: &Ending, second: &[Ending], found: &mut Option<u32>)
     }
 }
 
-// The same by one pattern of each.
+// Lowers what was found to this pattern of the second state, if it clashes with this earlier one of the first.
 fn lower_if_clash(ending: &Ending, other: &Ending, found: &mut Option<u32>)
     ensures { Lowers found.old found.new (Clash (ending.now ∷ []) (other.now ∷ [])) }
 {

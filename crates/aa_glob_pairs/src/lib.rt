@@ -1,5 +1,5 @@
-//! One graph run along two texts at once: which pairs of states one text reaches, and where patterns of different classes meet so. Pairs that wait to be
-//! looked at are kept by their first number.
+//! The pairs of states of a graph that one text reaches together, and where patterns of different classes end so. Pairs that wait to be looked at
+//! are kept by their first number. Nothing here knows of patterns' texts.
 #![tactic(auto)]
 
 mod below;

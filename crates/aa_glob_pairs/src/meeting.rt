@@ -1,4 +1,4 @@
-//! The least pattern that clashes with an earlier one, by the pairs of states that one text reaches.
+//! The least pattern that clashes with an earlier one, by the pairs of states that one text reaches together.
 
 ghost use Rattle.std.specs.Prelude.{◌≡◌, ◌<◌, ◌+◌, ◌^◌, length, slice_get, Some, IfOk, OnOk};
 ghost use Rattle.aa_glob_nfa.specs.OfTables.{graph_of};
@@ -17,26 +17,30 @@ use crate::waiting::Waiting;
 use aa_glob_nfa::Tables;
 use std::alloc::{AllocError, Global};
 
-/// How far the pairs were looked at.
+/// How far the search for clashing patterns has come.
 #[derive(Drop)]
 pub struct Meeting {
-    // The pairs that wait, of the first state that is looked at and of later ones.
+    // The pairs that wait: those of the first state that is looked at now, and of later ones.
     pub waiting: Waiting,
-    // For each state the first state, plus one, with which it was looked at last.
+    // For each state the first state, plus one, beside which it was looked at last; zero before.
     pub seen: Vec<u32>,
-    // The least pattern so far that clashes with an earlier one.
+    // The least pattern found so far that clashes with an earlier one.
     pub found: Option<u32>,
 }
 
-/// Room for the states of a pair, which is kept from one pair to the next.
+/// Buffers for the states of a pair, kept from one pair to the next.
 #[derive(Drop)]
 struct Pair {
     first: Node,
     second: Node,
 }
 
-/// The least pattern that clashes with an earlier one: each pair of states that one text reaches is looked at once, and none leads to an earlier
-/// one.
+/// The least pattern that clashes with an earlier one: each pair of states that one text reaches together is looked at once, and no pair leads to an
+/// earlier one.
+///
+/// # Errors
+///
+/// Where memory runs out.
 pub fn least_clash(
     alloc: Global,
     tables: &Tables,
@@ -57,7 +61,7 @@ pub fn least_clash(
     Ok(meeting.found)
 }
 
-// The pair of starts waits.
+// The search at its beginning, where only the pair of starts waits.
 fn begin(
     alloc: Global,
     tables: &Tables,
@@ -85,7 +89,7 @@ fn no_marks(alloc: Global, states: usize) -> Result<Vec<u32>, AllocError>
     vec![in alloc; 0u32; states]
 }
 
-// Looks at the pairs of a first state, if there are some.
+// Looks at the pairs of a first state, if there are any.
 fn meet_row(
     tables: &Tables,
     classes: &[u32],
@@ -119,7 +123,7 @@ fn meet_row(
     }
 }
 
-// The same, where the first state is at hand, and there is room for second ones.
+// Looks at the pairs of a first state, which is at hand as a node; `second` is a buffer for second states.
 fn meet_all(
     tables: &Tables,
     classes: &[u32],
@@ -154,8 +158,8 @@ fn meet_all(
     Ok(())
 }
 
-// Looks at a pair, if it wasn't yet: the first state is at hand, and there is room for the second. Nothing follows from one behind whose
-// states no pattern clashes with another.
+// Looks at a pair that wasn't looked at yet; `second` is a buffer for its second state. Nothing follows from a pair after whose states no patterns
+// clash.
 fn meet(
     tables: &Tables,
     classes: &[u32],

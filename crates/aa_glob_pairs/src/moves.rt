@@ -1,4 +1,4 @@
-//! What leads away from the states of a graph, as lists.
+//! What leads away from states of a graph, as lists.
 
 ghost use Rattle.std.specs.Prelude.{◌≡◌, ℕ, ◌+◌, ◌<◌, ◌^◌, ◌==◌, ◌&&◌, ◌||◌, [], length, IfOk, OnOk, true};
 ghost use Rattle.aa_bytes.specs.ByteMaps.{in_map};
@@ -18,7 +18,7 @@ use aa_bytes::ByteMap;
 use aa_glob_nfa::{Gate, Tables, Way};
 use std::alloc::{AllocError, Global};
 
-/// The bytes that bring a state from another, or leave it as it is.
+/// A step by a byte: to a state, or staying in one.
 #[derive(Clone, Copy)]
 pub struct Step {
     /// The state to which they lead.
@@ -37,7 +37,7 @@ pub struct Moves {
 }
 
 impl Moves {
-    /// None. It takes no memory.
+    /// No step. It takes no memory.
     pub fn new(alloc: Global) -> Moves
         ensures free { result.free.items ≡ [] }
         ensures steps { result.steps.items ≡ [] }
@@ -49,7 +49,11 @@ impl Moves {
     }
 }
 
-/// Puts what leads away from a state in the place of what was there; `AllocError` where memory ran out.
+/// Fills the lists with what leads away from a state, in place of their items.
+///
+/// # Errors
+///
+/// Where memory runs out.
 pub fn put_moves(tables: &Tables, state: u32, moves: &mut Moves) -> Result<(), AllocError>
     requires sound { AreSound tables.now }
     requires sorted { AreSorted tables.now }
@@ -64,7 +68,7 @@ pub fn put_moves(tables: &Tables, state: u32, moves: &mut Moves) -> Result<(), A
     Ok(())
 }
 
-// Adds the way that leads on.
+// Adds the way to the next state, if there is one.
 fn lead_on(tables: &Tables, state: u32, moves: &mut Moves) -> Result<(), AllocError>
     requires sound { AreSound tables.now }
     requires is_state { state < length tables.now.states }
@@ -102,7 +106,7 @@ fn add_if_from(tables: &Tables, way: &Way, state: u32, moves: &mut Moves) -> Res
     }
 }
 
-// Adds a way to a state.
+// Adds a step to a state, or the state itself where no byte leads into it.
 fn add(tables: &Tables, to: u32, moves: &mut Moves) -> Result<(), AllocError>
     requires sound { AreSound tables.now }
     requires to { to < length tables.now.states }
@@ -119,7 +123,7 @@ fn add(tables: &Tables, to: u32, moves: &mut Moves) -> Result<(), AllocError>
     Ok(())
 }
 
-// Adds that the state stays, if a byte leaves it as it is.
+// Adds a step of the state to itself, if some bytes stay in it.
 fn stay(tables: &Tables, state: u32, moves: &mut Moves) -> Result<(), AllocError>
     requires is_state { state < length tables.now.states }
     ensures { OnOk result (GetsStay (graph_of tables.now) moves.old moves.new state) }
@@ -130,7 +134,7 @@ fn stay(tables: &Tables, state: u32, moves: &mut Moves) -> Result<(), AllocError
     Ok(())
 }
 
-// The bytes that are taken to come into a state.
+// The bytes that lead into a state.
 fn bytes_taken(tables: &Tables, state: u32) -> Bytes
     requires sound { AreSound tables.now }
     requires is_state { state < length tables.now.states }
@@ -143,7 +147,7 @@ fn bytes_taken(tables: &Tables, state: u32) -> Bytes
     }
 }
 
-// The bytes that leave a state with this gate as it is, if there are some.
+// The bytes that stay in a state with this gate, if there are any.
 fn bytes_staying(gate: Gate) -> Option<Bytes>
     ensures { (set : ByteMap) (byte : ℕ) → stays_at (entry_behind gate set) byte ≡ is_among result byte }
 {
@@ -154,7 +158,7 @@ fn bytes_staying(gate: Gate) -> Option<Bytes>
     }
 }
 
-// The bytes that are taken to come into a state, byte by byte.
+// The bytes that lead into a state, found byte by byte.
 fn taken(tables: &Tables, state: u32) -> ByteMap
     requires sound { AreSound tables.now }
     requires is_state { state < length tables.now.states }
@@ -168,7 +172,7 @@ fn taken(tables: &Tables, state: u32) -> ByteMap
     map
 }
 
-// Puts a byte into a map, where it is to be put.
+// Adds a byte to a map, if `is_put`.
 fn put_if(is_put: bool, byte: u8, map: &mut ByteMap)
     ensures { (other : ℕ) → in_map map.new other ≡ (other == byte && is_put || in_map map.old other) }
 {

@@ -18,7 +18,7 @@ pub struct Node {
 }
 
 impl Node {
-    /// Nothing. It takes no memory.
+    /// An empty node. It takes no memory.
     pub fn new(alloc: Global) -> Node {
         Node {
             moves: Moves::new(alloc),
@@ -27,7 +27,11 @@ impl Node {
     }
 }
 
-/// Puts a state of a graph, with the classes of its patterns, in the place of what was there; `AllocError` where memory ran out.
+/// Fills a node with what leads away from a state and with the patterns that end there, in place of what it had.
+///
+/// # Errors
+///
+/// Where memory runs out.
 pub fn put_node(
     tables: &Tables,
     classes: &[u32],

@@ -1,21 +1,21 @@
-//! A place among the pairs of a first state.
+//! A place in the list of the second states of a first one.
 
 ghost use Rattle.std.specs.Prelude.{ℕ, List};
 ghost use Rattle.aa_glob_pairs.specs.Places.{StandsAt};
 
-/// A place among the second states of a first one, which are gone through one after the other. It stays right when more come behind them.
+/// A place in the list of the second states of a first one, which is gone through from its beginning. It stays valid when states are appended.
 #[derive(Clone, Copy)]
 pub struct Place {
-    /// How many second states stand before it.
+    /// How many second states come before it.
     pub index: usize,
-    /// Where their bytes end.
+    /// The offset of the byte after theirs.
     pub offset: usize,
-    /// The last one of them, or zero where there is none.
+    /// The last of them, or zero where there is none.
     pub state: u32,
 }
 
 impl Place {
-    /// Before all.
+    /// The place before all of them.
     pub fn start() -> Place
         ensures { (states : List ℕ) → StandsAt result states }
     {

@@ -10,13 +10,13 @@ use std::alloc::{AllocError, Global};
 use std::collections::BTreeMap;
 use std::marker::Model;
 
-/// The second states of pairs that have one first state, in the order in which they came; some may stand there more than once. Contracts see
-/// their list.
+/// The second states of the pairs with one first state, in the order in which they were added; one may be there more than once. Contracts see a
+/// list.
 #[derive(Drop)]
 pub struct Row {
-    // Each as its difference from the one before it, in a byte where that is small.
+    // Each as its difference from the one before it, in one byte where that is small.
     bytes: Vec<u8>,
-    // The last one, or zero where there is none.
+    // The last state, or zero where there is none.
     last: u32,
 }
 
@@ -32,7 +32,7 @@ impl Model for Row {
 }
 
 impl Row {
-    /// None. It takes no memory.
+    /// No state. It takes no memory.
     pub fn new(alloc: Global) -> Row
         ensures { result ≡ [] }
     {
@@ -42,7 +42,11 @@ impl Row {
         }
     }
 
-    /// One more, behind the others; `AllocError` where memory ran out.
+    /// Appends a state.
+    ///
+    /// # Errors
+    ///
+    /// Where memory runs out.
     pub fn push(&mut self, state: u32) -> Result<(), AllocError>
         ensures { OnOk result (self.new ≡ self.old ++ state ∷ []) }
     {
@@ -51,7 +55,7 @@ impl Row {
         Ok(())
     }
 
-    /// The place behind the next one, if there is one.
+    /// The place after the next state, if there is one.
     pub fn next_place(&self, place: Place) -> Option<Place>
         requires { StandsAt place self.now }
         ensures { IsNext result place self.now }
@@ -60,10 +64,11 @@ impl Row {
     }
 }
 
-/// Rows, each of which takes memory only while there are pairs in it. Contracts see the first states that have one, each with a list of second ones.
+/// Rows by their first state, each of which takes memory only while it has pairs. Contracts see the first states that have a row, each with the list
+/// of its second states.
 #[derive(Drop)]
 pub struct Rows {
-    // The allocator of a row that begins.
+    // The allocator for new rows.
     alloc: Global,
     rows: BTreeMap<u32, Row>,
 }
@@ -87,7 +92,11 @@ impl Rows {
         }
     }
 
-    /// One more pair, behind the others of its first state; `AllocError` where memory ran out.
+    /// Appends a second state to the row of a first one.
+    ///
+    /// # Errors
+    ///
+    /// Where memory runs out.
     pub fn push(&mut self, first: u32, second: u32) -> Result<(), AllocError>
         ensures { OnOk result (SetsRow self.old self.new first (row_at self.old first ++ second ∷ [])) }
     {
@@ -97,7 +106,7 @@ impl Rows {
         }
     }
 
-    // The first pair of a first state.
+    // Adds the row of a first state, with one second state.
     fn begin(&mut self, first: u32, second: u32) -> Result<(), AllocError>
         ensures { OnOk result (SetsRow self.old self.new first (second ∷ [])) }
     {
@@ -107,7 +116,7 @@ impl Rows {
         Ok(())
     }
 
-    /// The place behind the next pair of a first state, if there is one.
+    /// The place after the next second state of a first one, if there is one.
     pub fn next_place(&self, first: u32, place: Place) -> Option<Place>
         requires { StandsAt place (row_at self.now first) }
         ensures { IsNext result place (row_at self.now first) }
@@ -118,7 +127,7 @@ impl Rows {
         }
     }
 
-    /// Takes the row of a first state out.
+    /// Removes the row of a first state, and returns it.
     pub fn take(&mut self, first: u32) -> Row
         ensures row { result ≡ row_at self.old first }
         ensures rest { SetsRow self.old self.new first [] }

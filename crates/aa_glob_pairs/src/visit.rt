@@ -1,4 +1,4 @@
-//! What follows from a pair of states: the pairs to which one of them goes freely, or both by one byte.
+//! What follows from a pair of states: the pairs that are reached from it where one of the states moves without a byte, or both by the same byte.
 
 ghost use Rattle.std.specs.Prelude.{◌≡◌, ◌∷◌, [], Contains, OnOk};
 ghost use Rattle.aa_glob_pairs.specs.Nodes.{AreShared, FollowsBy};
@@ -9,7 +9,11 @@ use crate::moves::{Moves, Step};
 use crate::waiting::Waiting;
 use std::alloc::AllocError;
 
-/// The pairs that follow from one wait, too; `AllocError` where memory ran out.
+/// Adds the pairs that follow from one to those that wait.
+///
+/// # Errors
+///
+/// Where memory runs out.
 pub fn visit(
     first: &Moves,
     second: &Moves,
@@ -24,7 +28,7 @@ pub fn visit(
     go_both(&first.steps, &second.steps, waiting)
 }
 
-// The first state goes freely.
+// Adds the pairs where the first state moves without a byte.
 fn go_first(free: &[u32], column: u32, waiting: &mut Waiting) -> Result<(), AllocError>
     ensures { OnOk result (Gains waiting.old waiting.new (Ordered (λ x y. Contains free.now x × (y ≡ column)))) }
 {
@@ -34,7 +38,7 @@ fn go_first(free: &[u32], column: u32, waiting: &mut Waiting) -> Result<(), Allo
     Ok(())
 }
 
-// The second state goes freely.
+// Adds the pairs where the second state moves without a byte.
 fn go_second(row: u32, free: &[u32], waiting: &mut Waiting) -> Result<(), AllocError>
     ensures { OnOk result (Gains waiting.old waiting.new (Ordered (λ x y. (x ≡ row) × Contains free.now y))) }
 {
@@ -44,7 +48,7 @@ fn go_second(row: u32, free: &[u32], waiting: &mut Waiting) -> Result<(), AllocE
     Ok(())
 }
 
-// Both go by one byte.
+// Adds the pairs where both states move by the same byte.
 fn go_both(first: &[Step], second: &[Step], waiting: &mut Waiting) -> Result<(), AllocError>
     ensures { OnOk result (Gains waiting.old waiting.new (Ordered (AreShared first.now second.now))) }
 {
@@ -54,7 +58,7 @@ fn go_both(first: &[Step], second: &[Step], waiting: &mut Waiting) -> Result<(),
     Ok(())
 }
 
-// The same by one step of the first.
+// Adds the pairs where the first state moves by this step, and the second by the same byte.
 fn go_beside(step: &Step, second: &[Step], waiting: &mut Waiting) -> Result<(), AllocError>
     ensures { OnOk result (Gains waiting.old waiting.new (Ordered (AreShared (step.now ∷ []) second.now))) }
 {
@@ -64,7 +68,7 @@ fn go_beside(step: &Step, second: &[Step], waiting: &mut Waiting) -> Result<(), 
     Ok(())
 }
 
-// The same by one step of each.
+// Adds the pair to which these two steps lead, if they share a byte.
 fn go_if_shared(step: &Step, other: &Step, waiting: &mut Waiting) -> Result<(), AllocError>
     ensures { OnOk result (Gains waiting.old waiting.new (Ordered (AreShared (step.now ∷ []) (other.now ∷ [])))) }
 {

@@ -10,16 +10,16 @@ use std::alloc::{AllocError, Global};
 use std::marker::Model;
 use std::mem;
 
-/// Pairs of states, by their first state. Contracts see some first states, each with a list of second ones.
+/// Pairs of states that wait, by their first state. Contracts see some first states, each with the list of its second ones.
 #[derive(Drop)]
 pub struct Waiting {
-    // The allocator of a row that begins.
+    // The allocator for new rows.
     alloc: Global,
-    // A first state with its row and that of the next one. Most pairs come there, and aren't looked up.
+    // A first state, its row and that of the state after it. Most pairs are added to these two, without a look-up.
     state: u32,
     row: Row,
     next: Row,
-    // The rows of the others.
+    // The rows of all other states.
     rows: Rows,
 }
 
@@ -45,7 +45,11 @@ impl Waiting {
         }
     }
 
-    /// One more pair, behind the others of its first state; `AllocError` where memory ran out.
+    /// Adds a pair after the others of its first state.
+    ///
+    /// # Errors
+    ///
+    /// Where memory runs out.
     pub fn insert(&mut self, first: u32, second: u32) -> Result<(), AllocError>
         ensures { OnOk result (Gains self.old self.new (λ q r. (q ≡ first) × (r ≡ second))) }
     {
@@ -58,7 +62,11 @@ impl Waiting {
         }
     }
 
-    /// The same for a pair in either order: the lesser state is the first.
+    /// Adds a pair, of which the lesser state becomes the first.
+    ///
+    /// # Errors
+    ///
+    /// Where memory runs out.
     pub fn insert_pair(&mut self, one: u32, other: u32) -> Result<(), AllocError>
         ensures { OnOk result (Gains self.old self.new (Ordered (λ q r. (q ≡ one) × (r ≡ other)))) }
     {
@@ -69,7 +77,7 @@ impl Waiting {
         }
     }
 
-    /// The place behind the next pair of a first state, if there is one. It has the second state of this pair.
+    /// The place after the next pair of a first state, if there is one. It has the second state of this pair.
     pub fn next_place(&self, first: u32, place: Place) -> Option<Place>
         requires { StandsAt place (row_at self.now first) }
         ensures { IsNext result place (row_at self.now first) }
@@ -102,7 +110,7 @@ impl Waiting {
     }
 }
 
-// Whether a state is the next one behind another.
+// Whether a state is the one after another.
 fn is_next(state: u32, first: u32) -> bool
     ensures { Decides result (first ≡ state + 1) }
 {

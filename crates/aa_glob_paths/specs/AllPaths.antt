@@ -1,4 +1,4 @@
--- What is told of all paths: which patterns match one of them together.
+-- What outcomes say of all paths: which patterns match one of them together.
 use Rattle.std.specs.Prelude.{◌≡◌, ◌↔◌, ℕ, ◌<◌, ◌≤◌, List, length, All, AllPairs, Contains}
 use Rattle.aa_glob_nfa.specs.Graphs.{AreBytes}
 use Rattle.aa_glob_pairs.specs.Graphs.{class_at}
@@ -7,7 +7,7 @@ use Rattle.aa_glob_paths.specs.Wanted.{wanted_class}
 use Rattle.aa_glob_syntax.specs.Patterns.{AreMatching}
 use Rattle.aa_glob_paths.specs.declared.outcome.Outcome.{Outcome}
 
--- the same places, in whatever order they are told
+-- the same places, whatever their order
 abbrev pub SamePlaces : List ℕ → List ℕ → Type 0
 SamePlaces places others = (p : ℕ) → Contains places p ↔ Contains others p
 
@@ -15,11 +15,11 @@ SamePlaces places others = (p : ℕ) → Contains places p ↔ Contains others p
 abbrev pub IsWanted : List ℕ → List ℕ → Type 0
 IsWanted classes places = (p : ℕ) × Contains places p × (class_at classes p ≡ wanted_class)
 
--- one of them is passed over
+-- one of the patterns is passed over
 abbrev pub HasPassedOver : List ℕ → List ℕ → Type 0
 HasPassedOver classes places = (p : ℕ) × Contains places p × (class_at classes p ≡ passed_over_class)
 
--- one of them is wanted, and none is passed over
+-- one of the patterns is wanted, and none is passed over
 pub record AreTold (classes places : List ℕ) : Type 0 where
   pub wanted : IsWanted classes places
   pub none_passed_over : HasPassedOver classes places → ⊥
@@ -28,21 +28,22 @@ pub record AreTold (classes places : List ℕ) : Type 0 where
 abbrev pub HasPlaces : List Outcome → List ℕ → List ℕ → Type 0
 HasPlaces outcomes path places = (o : Outcome) × Contains outcomes o × SamePlaces o.places.items places × (length o.path.items ≤ length path)
 
--- Its path is one, and its places, in rising order, are those of the patterns that match it. One of these is wanted, and none is passed over.
+-- The path of an outcome is one, and its places, in rising order, are those of the patterns that match it. One of these is wanted, and none is
+-- passed over.
 pub record IsOutcome (patterns : List (List ℕ)) (classes : List ℕ) (o : Outcome) : Type 0 where
   pub bytes : AreBytes o.path.items
   pub matching : AreMatching patterns o.path.items o.places.items
   pub rise : AllPairs (λ p q. p < q) o.places.items
   pub told : AreTold classes o.places.items
 
--- each path has the places of one of the outcomes, whose own path is no longer, as far as a pattern that is wanted matches, and none that is passed over
+-- for each path that a wanted pattern matches, and none that is passed over, one of the outcomes has its places, and its own path is no longer
 abbrev pub EachPathHasPlaces : List (List ℕ) → List ℕ → List Outcome → Type 0
 EachPathHasPlaces patterns classes outcomes =
     (path places : List ℕ) → AreBytes path → AreMatching patterns path places → AreTold classes places → HasPlaces outcomes path places
 
--- These tell of all paths of bytes which patterns match them, as far as a pattern that is wanted matches, and none that is passed over: each such path has
--- the places of one of them, and each of them has such a path. No two have the same places, so no shorter path has those of one of them. Those with
--- shorter paths stand first.
+-- These outcomes say of all paths of bytes which patterns match them, as far as a wanted pattern matches, and none that is passed over: each such
+-- path has the places of one of them, and each of them has such a path. No two have the same places, so no shorter path has those of one of them.
+-- They are in the order of the lengths of their paths.
 pub record TellAllPaths (patterns : List (List ℕ)) (classes : List ℕ) (outcomes : List Outcome) : Type 0 where
   pub each_path : EachPathHasPlaces patterns classes outcomes
   pub each_outcome : All (IsOutcome patterns classes) outcomes

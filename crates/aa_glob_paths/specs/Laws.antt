@@ -40,7 +40,7 @@ StandForAllPaths patterns classes paths =
 abbrev pub paths_of : List Outcome → List (List ℕ)
 paths_of outcomes = map (λ o. o.path.items) outcomes
 
--- the paths of outcomes that tell of all paths stand for all
+-- the paths of outcomes that cover all paths stand for all
 abbrev pub OutcomesStandForAll : Type 0
 OutcomesStandForAll =
     (patterns : List (List ℕ)) (classes : List ℕ) (outcomes : List Outcome)

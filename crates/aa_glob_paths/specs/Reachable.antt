@@ -1,4 +1,4 @@
--- Which sets of states texts of bytes lead to, as far as they matter, and nothing behind them is settled.
+-- To which sets of states texts of bytes lead, as far as they matter, and nothing after them is settled.
 use Rattle.std.specs.Prelude.{◌≡◌, ◌↔◌, ◌⊎◌, ℕ, ◌^◌, ◌<◌, ◌≤◌, Bool, true, false, List, [], ◌∷◌, length, slice_index_or, All, AllPairs}
 use Rattle.aa_glob_nfa.specs.Graphs.{AreBytes, Graph, Leads, Reaches}
 use Rattle.aa_glob_nfa.specs.Runs.{IsWhole, LeadsTo}
@@ -12,7 +12,7 @@ is_marked marks r = slice_index_or marks r false
 abbrev pub matters : List Bool → ℕ → Bool
 matters wanted r = is_marked wanted r
 
--- a state is settled: nothing is to be told of texts that go on behind it
+-- a state is settled: texts that continue after it aren't looked for
 abbrev pub is_settled : List Bool → ℕ → Bool
 is_settled settled r = is_marked settled r
 
@@ -20,30 +20,30 @@ is_settled settled r = is_marked settled r
 abbrev pub IsKeptBack : Graph → List Bool → Type 0
 IsKeptBack g wanted = (q r : ℕ) → Leads g q r → matters wanted r ≡ true → matters wanted q ≡ true
 
--- behind a text, which is written with its last byte first, a state lives that matters
+-- after a text, which is written with its last byte first, a state is live that matters
 abbrev pub LivesOn : Graph → List Bool → List ℕ → Type 0
 LivesOn g wanted past = (r : ℕ) × Reaches g past r × (matters wanted r ≡ true)
 
--- behind a text no settled state lives
+-- after a text no settled state is live
 abbrev pub IsUnsettled : Graph → List Bool → List ℕ → Type 0
 IsUnsettled g settled past = (r : ℕ) → Reaches g past r → is_settled settled r ≡ true → ⊥
 
--- nor behind any beginning of it
+-- after a text and after each beginning of it no settled state is live
 abbrev pub StaysUnsettled : Graph → List Bool → List ℕ → Type 0
 StaysUnsettled g settled [] = IsUnsettled g settled []
 StaysUnsettled g settled (c ∷ past) = IsUnsettled g settled (c ∷ past) × StaysUnsettled g settled past
 
--- the set of a number lives behind some text of bytes, behind which it was found
+-- the set of a number is live after some text of bytes, by which it was found
 abbrev pub HasText : Graph → List FoundSet → ℕ → Type 0
 HasText g found n = (past : List ℕ) × AreBytes past × IsWhole g past (set_at found n) × IsFoundBehind found n past
 
--- one of the sets lives behind the text, and was found behind one that is no longer
+-- one of the sets is live after the text, and was found by one that is no longer
 abbrev pub HasSet : Graph → List FoundSet → List ℕ → Type 0
 HasSet g found past = (n : ℕ) × (n < length found) × IsWhole g past (set_at found n) × IsFoundWithin found n past
 
--- These are the sets that live behind texts of bytes: each text behind which a state lives that matters, and behind no beginning of which a settled
--- one lives, has its set among them, which was found behind one of the shortest of its texts, and each of them has a text. Those that were found behind
--- shorter texts stand first.
+-- These are the sets that are live after texts of bytes: each text after which a state is live that matters, and after no beginning of which a
+-- settled one is, has its set among them, which was found by one of the shortest of its texts, and each of them has a text. They are in the order of
+-- the lengths of the texts by which they were found.
 pub record AreReachable (g : Graph) (wanted settled : List Bool) (found : List FoundSet) : Type 0 where
   pub each_text : (past : List ℕ) → AreBytes past → LivesOn g wanted past → StaysUnsettled g settled past → HasSet g found past
   pub each_set : (n : ℕ) → n < length found → HasText g found n
@@ -60,18 +60,18 @@ pub record AreMoreThan (g : Graph) (limit : ℕ) : Type 0 where
   pub bytes : All AreBytes texts
   pub apart : AllPairs (λ past other. LeadAlike g past other → ⊥) texts
 
--- behind any text that leads to a set, and a byte more, no state lives that matters, or a settled one does
+-- after any text that leads to a set, and one more byte, no state is live that matters, or a settled one is
 abbrev pub IsOver : Graph → List Bool → List Bool → List ℕ → ℕ → Type 0
 IsOver g wanted settled from c = (past : List ℕ) → IsWhole g past from → LivesOn g wanted (c ∷ past) → IsUnsettled g settled (c ∷ past) → ⊥
 
--- one of the sets lives behind that of a number and a byte, and comes of it or of an earlier one
+-- one of the sets follows that of a number by a byte, and was found from it or from an earlier one
 abbrev pub HasNext : Graph → List FoundSet → ℕ → ℕ → Type 0
 HasNext g found n c = (to : ℕ) × (to < length found) × ((origin_at found to).from ≤ n) × LeadsTo g (set_at found n) c (set_at found to)
 
--- behind the set of a number and a byte one of the sets lives, or nothing that matters, or something that is settled
+-- the set of a number is followed by a byte: one of the sets follows, or nothing that matters, or something that is settled
 abbrev pub IsFollowed : Graph → List Bool → List Bool → List FoundSet → ℕ → ℕ → Type 0
 IsFollowed g wanted settled found n c = HasNext g found n c ⊎ IsOver g wanted settled (set_at found n) c
 
--- each of the sets is followed, behind each byte
+-- each of the sets is followed by each byte
 abbrev pub IsClosed : Graph → List Bool → List Bool → List FoundSet → Type 0
 IsClosed g wanted settled found = (n c : ℕ) → n < length found → c < 2 ^ 8 → IsFollowed g wanted settled found n c

@@ -1,10 +1,10 @@
--- When there are too many different paths to tell of all.
+-- When there are too many different paths.
 use Rattle.std.specs.Prelude.{◌↔◌, ℕ, ◌<◌, List, length, All, AllPairs}
 use Rattle.aa_glob.specs.Visits.{IsReadOf}
 use Rattle.aa_glob_nfa.specs.Graphs.{AreBytes}
 use Rattle.aa_glob_pattern.specs.Trails.{Trail}
 
--- the same beginnings of the patterns can be read by two texts, which are written with their last bytes first
+-- two texts, which are written with their last bytes first, read the same beginnings of the patterns
 abbrev pub AreReadAlike : List (List ℕ) → List ℕ → List ℕ → Type 0
 AreReadAlike patterns past other = (trail : Trail) → IsReadOf patterns past trail ↔ IsReadOf patterns other trail
 

@@ -1,4 +1,4 @@
--- Which states matter where some patterns are wanted: those behind which one of them may end.
+-- Which states matter where some patterns are wanted: those after which one of them may end.
 use Rattle.std.specs.Prelude.{◌≡◌, ℕ, ◌<◌, Bool, true, false, ◌==◌, if◌then◌else◌, List, length}
 use Rattle.aa_glob_nfa.specs.Graphs.{EndsAt, Graph}
 use Rattle.aa_glob_pairs.specs.Graphs.{class_at}
@@ -10,11 +10,11 @@ use Rattle.aa_glob_paths.specs.Reachable.{matters}
 abbrev pub wanted_class : ℕ
 wanted_class = 1
 
--- the class of a pattern where all that aren't wanted have one
+-- the class of a pattern, where all that aren't wanted have one class
 abbrev pub wanted_or_other : ℕ → ℕ
 wanted_or_other class = if class == wanted_class then wanted_class else 0
 
--- a pattern that is wanted may end there
+-- a pattern that is wanted may end at or after a state
 abbrev pub has_wanted : Below → Bool
 has_wanted Nothing = false
 has_wanted (One own) = own == wanted_class

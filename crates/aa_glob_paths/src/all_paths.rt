@@ -10,13 +10,13 @@ use crate::outcome::Outcome;
 use aa_glob::{Automaton, what_reaches_a_state};
 use std::alloc::{AllocError, Global};
 
-/// Which patterns of an automaton match some path together, where one of the class that is wanted (`WANTED`) is among them, and none of the class that is
-/// passed over (`PASSED_OVER`): a path of any bytes that one of those matches and none of these has the places of one of the outcomes, whose own path is no
-/// longer. Each outcome has such a path. No places stand twice, and those with shorter paths stand first. `classes` has the class of each pattern, by its
-/// place.
+/// Which patterns of an automaton match some path together, where a pattern of the class `WANTED` is among them, and none of the class
+/// `PASSED_OVER`. For each path of any bytes that a wanted pattern matches and none that is passed over, the places of the patterns that match it
+/// are those of one of the outcomes, whose own path is no longer. Each outcome has such a path. No two outcomes have the same places, and they are
+/// in the order of the lengths of their paths. `classes` has the class of each pattern, by its place.
 ///
-/// None is answered where the sets of states that are to be looked at are more than a limit: then there are more texts than that, no two of which
-/// are read alike by the patterns.
+/// It returns `None` where more sets of states have to be looked at than `limit`: then there are more texts than that, no two of which are read
+/// alike by the patterns.
 ///
 /// # Errors
 ///

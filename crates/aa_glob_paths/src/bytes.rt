@@ -9,7 +9,7 @@ use aa_bytes::{ByteMap, is_inside};
 use aa_glob_nfa::{ClassRow, Gate, States, Tables};
 use std::alloc::{AllocError, Global};
 
-// The bytes that can be printed, in the order in which texts are written with them: letters and digits first, and those that shells read otherwise last.
+// The printable bytes, in the order in which texts are written with them: letters and digits first, and those last that have a meaning to shells.
 const PRINTED: &[u8] =
     b"abcdefghijklmnopqrstuvwxyzABCDEFGHIJKLMNOPQRSTUVWXYZ0123456789._-+/,:=@%~!#^$&'()*;<>?[]`{|}\"\\ ";
 
@@ -27,14 +27,14 @@ fn own_bytes(states: &States) -> ByteMap
     own
 }
 
-// Whether both hold, or neither.
+// Whether two values are equal.
 fn are_same(one: bool, other: bool) -> bool
     ensures { result ≡ true → one ≡ other }
 {
     if one { other } else { !other }
 }
 
-// Whether the sets of classes have both bytes, or neither.
+// Whether each class has both bytes, or neither.
 fn have_alike(classes: &[ClassRow], one: u8, other: u8) -> bool
     ensures { result ≡ true → HaveAlike classes.now one other }
 {
@@ -46,7 +46,7 @@ fn have_alike(classes: &[ClassRow], one: u8, other: u8) -> bool
     true
 }
 
-// Whether no state tells two bytes apart, as far as it is looked for.
+// Whether no state tells two bytes apart; `false` may be returned where none does.
 fn are_alike(tables: &Tables, own: &ByteMap, one: u8, other: u8) -> bool
     requires own { HasOwnBytes tables.now.states (length tables.now.states) own.now }
     ensures { result ≡ true → AreAlike (graph_of tables.now) one other }
@@ -63,7 +63,7 @@ fn are_alike(tables: &Tables, own: &ByteMap, one: u8, other: u8) -> bool
     have_alike(&tables.classes, one, other)
 }
 
-// Whether one of some bytes is like another.
+// Whether one of some bytes is like another byte.
 fn has_alike(tables: &Tables, own: &ByteMap, bytes: &[u8], other: u8) -> bool
     requires own { HasOwnBytes tables.now.states (length tables.now.states) own.now }
     ensures { result ≡ true → (b : ℕ) × Contains bytes.now b × AreAlike (graph_of tables.now) b other }
@@ -76,7 +76,7 @@ fn has_alike(tables: &Tables, own: &ByteMap, bytes: &[u8], other: u8) -> bool
     false
 }
 
-// Appends a byte to others, if it is like none of them.
+// Appends a byte to a list, if it is like none of its bytes.
 fn put_if_new(
     tables: &Tables,
     own: &ByteMap,
@@ -93,7 +93,7 @@ fn put_if_new(
     Ok(())
 }
 
-// Appends each of some bytes that is like none of those before it.
+// Appends each of `more` to a list that is like none of the bytes before it.
 fn put_each_new(
     tables: &Tables,
     own: &ByteMap,
@@ -109,7 +109,8 @@ fn put_each_new(
     Ok(())
 }
 
-/// Bytes that stand for all: to each byte one of them is alike, and to each that can be printed one that can be. These come first.
+/// Bytes that stand for all: each byte is like one of them, and each printable one is like one of them that is printable. The printable ones come
+/// first.
 ///
 /// # Errors
 ///

@@ -1,4 +1,4 @@
-//! The sets that live behind texts, found one after the other.
+//! The sets of states that are live after texts, found one after the other.
 
 ghost use Rattle.std.specs.Prelude.{◌≡◌, ◌<◌, ℕ, [], length, IfOk, IfSome, None, OnOk};
 ghost use Rattle.aa_glob_nfa.specs.OfTables.{AreSound, AreSorted, graph_of};
@@ -17,7 +17,7 @@ use crate::told::bytes_for_set;
 use aa_glob_nfa::Tables;
 use std::alloc::{AllocError, Global};
 
-// The set that lives before a text, alone.
+// The set that is live before a text, alone.
 fn begin(alloc: Global, tables: &Tables) -> Result<Sets, AllocError>
     requires sound { AreSound tables.now }
     requires sorted { AreSorted tables.now }
@@ -30,7 +30,7 @@ fn begin(alloc: Global, tables: &Tables) -> Result<Sets, AllocError>
     Ok(sets)
 }
 
-// Appends the set that lives behind that of a number and a byte, if it isn't there, a state in it matters, and none is settled.
+// Appends the set that is live after that of a number and a byte, if it isn't there, a state in it matters, and none is settled.
 fn follow_byte(
     tables: &Tables,
     wanted: &[bool],
@@ -60,7 +60,7 @@ fn follow_byte(
     }
 }
 
-// The same behind each of some bytes, which stand for all behind the texts of the set.
+// Appends the sets that are live after that of a number and each of some bytes, which stand for all bytes after the texts of the set.
 fn follow_each(
     tables: &Tables,
     wanted: &[bool],
@@ -89,7 +89,7 @@ fn follow_each(
     Ok(())
 }
 
-// The same behind all bytes, by bytes that stand for all.
+// Appends the sets that are live after that of a number and any byte, by bytes that stand for all.
 fn follow_all(
     tables: &Tables,
     wanted: &[bool],
@@ -117,11 +117,12 @@ fn follow_all(
     follow_each(tables, wanted, settled, own, fronts, sets, from)
 }
 
-/// The sets of states that live behind texts of bytes, as far as a state among them matters and none is settled, in the order of the lengths of these
-/// texts; none where they are more than a limit. Behind a set with a settled state nothing is looked for. `wanted` tells of each state whether it matters,
-/// and `settled` whether it is settled.
+/// The sets of states that are live after some text, as far as a state among them matters and none is settled, in the order of the lengths of these
+/// texts; `None` where they are more than `limit`. A set with a settled state isn't followed. `wanted` says of each state whether it matters, and
+/// `settled` whether it is settled.
 ///
-/// It takes time for each set, each of its states and each byte that they tell apart from others, and memory for each set and each of its states.
+/// Its time grows with the number of sets, the states of each, and the bytes that they tell apart; its memory with the number of sets and the states
+/// of each.
 ///
 /// # Errors
 ///

@@ -1,4 +1,4 @@
-//! What a step from a set to the next works with.
+//! Buffers for a step from a set to the next.
 
 ghost use Rattle.std.specs.Prelude.{◌≡◌, length, IfOk, OnOk};
 ghost use Rattle.aa_glob_nfa.specs.OfTables.{AreSound, AreSorted, graph_of};
@@ -9,7 +9,8 @@ ghost use Rattle.aa_glob_paths.specs.code.Rooms.{HasRoom};
 use aa_glob_nfa::{Front, Steps, Tables, pass};
 use std::alloc::{AllocError, Global};
 
-// Two fronts, and the set to which the last step led. They are kept from step to step, so that a step takes memory only where theirs doesn't reach.
+// Two fronts, and the set to which the last step led. They are kept from step to step, so that a step allocates only where their capacity is too
+// small.
 #[derive(Drop)]
 pub struct Fronts {
     pub here: Front,
@@ -30,7 +31,7 @@ impl Fronts {
     }
 }
 
-// Puts the states that live behind a byte, of those that live before it, into the second front, in the order in which they are found.
+// Fills the second front with the states that are live after a byte, given those that are live before it, in the order in which they are found.
 pub fn follow(
     tables: &Tables,
     from: &[u32],

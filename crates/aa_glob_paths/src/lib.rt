@@ -1,5 +1,9 @@
-//! Which patterns match some path together: each such list of patterns once, with one of the shortest paths. These paths stand for all. They come of the
-//! sets of states of the automaton that live together behind texts: all of them, where they are no more than a limit, each with a text.
+//! Which patterns match some path together: each such set of patterns once, with one of the shortest paths, so that these paths stand for all. It is
+//! the subset construction: the sets of states of an automaton that are live together after some text, each with such a text, all of them where they
+//! are no more than a limit.
+//!
+//! Use it to ask a question about all paths; a single path is asked of `Automaton` in `aa_glob`. There may be exponentially many sets, so a caller
+//! gives a limit.
 #![tactic(auto)]
 
 mod all_paths;

@@ -1,4 +1,4 @@
-//! Which states live behind a byte.
+//! Which states are live after a byte.
 
 ghost use Rattle.std.specs.Prelude.{◌≡◌, ◌<◌, ◌&&◌, not, [], length, All, IfOk, OnOk};
 ghost use Rattle.std.specs.List.{list_any};
@@ -14,7 +14,7 @@ use crate::fronts::{Fronts, follow};
 use aa_glob_nfa::{Tables, first};
 use std::alloc::{AllocError, Global};
 
-// Puts states in rising order, so that a set is one list.
+// Sorts states, so that a set is one list.
 fn put_in_order(states: &mut Vec<u32>)
     ensures same { IsPermutation states.old.items states.new.items }
     ensures order { IsNonDecreasing states.new.items }
@@ -22,7 +22,7 @@ fn put_in_order(states: &mut Vec<u32>)
     states.sort_unstable();
 }
 
-// The states that live before a text, as a set.
+// The states that are live before a text, as a sorted set.
 pub fn first_set(alloc: Global, tables: &Tables) -> Result<Vec<u32>, AllocError>
     requires sound { AreSound tables.now }
     requires sorted { AreSorted tables.now }
@@ -34,7 +34,7 @@ pub fn first_set(alloc: Global, tables: &Tables) -> Result<Vec<u32>, AllocError>
     Ok(states)
 }
 
-// The states that live behind a byte, of those that live before it: they are the set of the fronts then.
+// The states that are live after a byte, given those that are live before it: they are returned as the set of the fronts.
 pub fn next_set(
     tables: &Tables,
     from: &[u32],

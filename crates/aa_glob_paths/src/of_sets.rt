@@ -1,4 +1,4 @@
-//! The outcomes of the sets that live behind texts.
+//! The outcomes of the sets that are live after texts.
 
 ghost use Rattle.std.specs.Prelude.{◌≡◌, ◌+◌, ◌<◌, length, All, IfOk, IfSome, None, OnOk};
 ghost use Rattle.aa_glob_nfa.specs.OfTables.{AreSound, AreSorted, graph_of};
@@ -41,8 +41,8 @@ fn are_told(classes: &[u32], places: &[usize]) -> bool
     has_class(classes, WANTED, places) && !has_class(classes, PASSED_OVER, places)
 }
 
-// Appends the patterns of the set of a number to those of the sets before it, with the text that leads to it, if one of them is wanted, none is passed over,
-// and they aren't there.
+// Adds the patterns that end in the set of a number to the outcomes of the sets before it, with the text that leads to it, if one of them is wanted,
+// none is passed over, and they aren't there.
 fn put_outcome(
     alloc: Global,
     tables: &Tables,
@@ -72,7 +72,7 @@ fn put_outcome(
     Ok(())
 }
 
-// The outcomes that are kept, as a list.
+// The outcomes that were kept, as a list.
 fn listed(alloc: Global, kept: IndexMap<Vec<usize>, Vec<u8>>) -> Result<Vec<Outcome>, AllocError>
     ensures { IfOk result (λ outcomes. outcomes.items ≡ kept_outcomes kept.entries) }
 {
@@ -83,7 +83,7 @@ fn listed(alloc: Global, kept: IndexMap<Vec<usize>, Vec<u8>>) -> Result<Vec<Outc
     Ok(outcomes)
 }
 
-// Those of all sets.
+// The outcomes of all sets.
 fn outcomes_of(
     alloc: Global,
     tables: &Tables,
@@ -104,7 +104,12 @@ fn outcomes_of(
     listed(alloc, kept)
 }
 
-/// The outcomes of all texts that lead to an end of a wanted pattern, and to none of one that is passed over; none where there are more sets than a limit.
+/// The outcomes of all texts that lead to an end of a wanted pattern, and to none of one that is passed over; `None` where there are more sets than
+/// `limit`.
+///
+/// # Errors
+///
+/// Where memory runs out.
 pub fn outcomes_in(
     alloc: Global,
     tables: &Tables,

@@ -1,6 +1,6 @@
 //! Patterns that match a path together.
 
-/// Patterns by their places, in rising order, and one of the shortest paths that they and no others match.
+/// The places of some patterns, in rising order, and one of the shortest paths that they match and no others.
 #[derive(Debug, Drop)]
 pub struct Outcome {
     pub places: Vec<usize>,

@@ -9,7 +9,7 @@ use indexmap::IndexMap;
 use std::alloc::{AllocError, Global};
 use std::marker::Model;
 
-/// Sets of states, each once, in the order in which they were found, with their origins. Contracts see that list.
+/// Sets of states, each once, in the order in which they were found, with their origins. Contracts see a list.
 #[derive(Drop)]
 pub struct Sets {
     alloc: Global,
@@ -27,7 +27,7 @@ impl Model for Sets {
 }
 
 impl Sets {
-    // No sets.
+    // No set. It takes no memory.
     pub(crate) fn new(alloc: Global) -> Sets
         ensures { result ≡ [] }
     {
@@ -55,7 +55,7 @@ impl Sets {
         }
     }
 
-    /// Where the set of a number was found first. The first set was found nowhere: what is told of it has no meaning. It takes no memory.
+    /// How the set of a number was found first. Of the first set, which isn't found from another, the origin has no meaning. It takes no memory.
     pub fn origin(&self, number: usize) -> Origin
         requires { number < length self.now }
         ensures { result ≡ origin_at self.now number }
@@ -66,7 +66,7 @@ impl Sets {
         }
     }
 
-    // Appends a copy of a set, if it isn't among the others.
+    // Appends a copy of a set, if it isn't there.
     pub(crate) fn place(&mut self, set: &[u32], origin: Origin) -> Result<(), AllocError>
         ensures { OnOk result (HasPlaced self.old self.new (record { set = set.now; origin = origin })) }
     {

@@ -12,7 +12,7 @@ use std::alloc::{AllocError, Global};
 /// The class of the patterns that are passed over: texts that one of them matches aren't looked for.
 pub const PASSED_OVER: u32 = 2;
 
-// Whether zero brings the tables into a state. It does in none that are made of patterns.
+// Whether the byte zero leads into a state. It does in no tables that are made of patterns.
 fn takes_zero(tables: &Tables) -> bool
     requires { AreSound tables.now }
     ensures { result ≡ false → TakesNoZero (graph_of tables.now) }
@@ -39,7 +39,7 @@ fn is_passed_over(tables: &Tables, classes: &[u32], state: u32) -> bool
     false
 }
 
-// Whether one ends there, or at one of the states that ways lead on to from there, one after the other, without a byte.
+// Whether a pattern that is passed over ends at a state, or at one of the states after it to which a way leads on without a byte.
 fn leads_to_passed_over(tables: &Tables, classes: &[u32], state: u32) -> bool
     requires classed { AreClassed tables.now classes.now }
     requires is_state { state < length tables.now.states }
@@ -55,7 +55,7 @@ fn leads_to_passed_over(tables: &Tables, classes: &[u32], state: u32) -> bool
     true
 }
 
-// Whether a state is left as it is by each byte but zero, and a pattern that is passed over ends wherever it is reached.
+// Whether each byte but zero stays in a state, and a pattern that is passed over ends wherever the state is reached.
 fn stays_passed_over(tables: &Tables, classes: &[u32], state: u32) -> bool
     requires classed { AreClassed tables.now classes.now }
     requires is_state { state < length tables.now.states }
@@ -67,8 +67,8 @@ fn stays_passed_over(tables: &Tables, classes: &[u32], state: u32) -> bool
     }
 }
 
-/// Whether each state is settled: wherever it is reached, a pattern of the class that is passed over matches, whatever follows. `classes` has the class of
-/// each pattern. It finds those states that a `**` made from which the end of such a pattern is reached through the states that were made next.
+/// Whether each state is settled: wherever it is reached, a pattern of the class `PASSED_OVER` matches, whatever follows. `classes` has the class of
+/// each pattern. It finds the states of a `**` from which the end of such a pattern is reached by ways to the next state.
 ///
 /// # Errors
 ///

@@ -13,7 +13,7 @@ use aa_bytes::ByteMap;
 use aa_glob_nfa::{Gate, Tables, Way};
 use std::alloc::AllocError;
 
-// Puts those of some bytes into a set of bytes that lead into a state.
+// Adds those of some bytes to a set that lead into a state.
 fn tell_taken(tables: &Tables, bytes: &[u8], number: u32, told: &mut ByteMap)
     requires sound { AreSound tables.now }
     requires is_state { number < length tables.now.states }
@@ -27,7 +27,7 @@ fn tell_taken(tables: &Tables, bytes: &[u8], number: u32, told: &mut ByteMap)
     }
 }
 
-// Puts those of some bytes into a set of bytes that lead into a state where others don't. Zero and `/` are in it already.
+// Adds those of some bytes to a set by which a state is entered while others don't enter it. Zero and `/` are in the set already.
 fn tell_entry(tables: &Tables, bytes: &[u8], number: u32, told: &mut ByteMap)
     requires sound { AreSound tables.now }
     requires is_state { number < length tables.now.states }
@@ -42,7 +42,7 @@ fn tell_entry(tables: &Tables, bytes: &[u8], number: u32, told: &mut ByteMap)
     }
 }
 
-// The same of the state that a way leads on to from another, if one does.
+// Adds those of some bytes to a set that the state after another tells apart, if a way leads there.
 fn tell_on(tables: &Tables, bytes: &[u8], from: u32, told: &mut ByteMap)
     requires sound { AreSound tables.now }
     requires is_state { from < length tables.now.states }
@@ -55,7 +55,7 @@ fn tell_on(tables: &Tables, bytes: &[u8], from: u32, told: &mut ByteMap)
     }
 }
 
-// The same of the states that some ways lead to from another.
+// Adds those of some bytes to a set that states tell apart to which these ways lead from a state.
 fn tell_by(tables: &Tables, bytes: &[u8], ways: &[Way], from: u32, told: &mut ByteMap)
     requires sound { AreSound tables.now }
     requires each { All (IsWay tables.now.states) ways.now }
@@ -70,7 +70,7 @@ fn tell_by(tables: &Tables, bytes: &[u8], ways: &[Way], from: u32, told: &mut By
     }
 }
 
-// The same of the states that ways of the table lead to from another.
+// Adds those of some bytes to a set that states tell apart to which ways of the table lead from a state.
 fn tell_away(tables: &Tables, bytes: &[u8], from: u32, told: &mut ByteMap)
     requires sound { AreSound tables.now }
     requires sorted { AreSorted tables.now }
@@ -84,7 +84,7 @@ fn tell_away(tables: &Tables, bytes: &[u8], from: u32, told: &mut ByteMap)
     }
 }
 
-// The same of all states that ways lead to from another.
+// Adds those of some bytes to a set that states tell apart to which any way leads from a state.
 fn tell_ways(tables: &Tables, bytes: &[u8], from: u32, told: &mut ByteMap)
     requires sound { AreSound tables.now }
     requires sorted { AreSorted tables.now }
@@ -97,7 +97,7 @@ fn tell_ways(tables: &Tables, bytes: &[u8], from: u32, told: &mut ByteMap)
     tell_away(tables, bytes, from, told);
 }
 
-// A set of bytes that has each of some bytes that the states of a set tell apart from another.
+// A set with each of some bytes that the states to which a set of states leads tell apart from another byte.
 fn told_by(tables: &Tables, bytes: &[u8], set: &[u32]) -> ByteMap
     requires sound { AreSound tables.now }
     requires sorted { AreSorted tables.now }
@@ -114,7 +114,7 @@ fn told_by(tables: &Tables, bytes: &[u8], set: &[u32]) -> ByteMap
     told
 }
 
-// Puts those of some bytes that are told, and the first one that isn't, in place of others.
+// Fills a list with those of some bytes that are in a set, and the first one that isn't.
 fn pick(bytes: &[u8], told: &ByteMap, own: &mut Vec<u8>) -> Result<(), AllocError>
     ensures { OnOk result (ArePicked bytes.now told.now own.new.items) }
 {
@@ -130,12 +130,12 @@ fn pick(bytes: &[u8], told: &ByteMap, own: &mut Vec<u8>) -> Result<(), AllocErro
     Ok(())
 }
 
-/// Puts those of some bytes, which stand for all, that stand for all behind the texts of a set in place of others: to each byte one of them is alike,
-/// as far as its states tell bytes apart. They stand in the order of the others. It goes over the set once.
+/// Fills a list with those of some bytes, which stand for all, that stand for all after the texts of a set of states: each byte is like one of them,
+/// as far as the states of the set tell bytes apart. They keep their order. It goes over the set once.
 ///
 /// # Errors
 ///
-/// Where memory runs out. Which bytes there are then is not said.
+/// Where memory runs out. Nothing is promised then about the list.
 pub fn bytes_for_set(
     tables: &Tables,
     bytes: &[u8],

@@ -14,7 +14,7 @@ use std::alloc::{AllocError, Global};
 /// The class of the patterns that are wanted.
 pub const WANTED: u32 = 1;
 
-// Whether a pattern that is wanted may end there.
+// Whether a pattern that is wanted may end at or after a state.
 fn has_wanted(below: Below) -> bool
     ensures { result ≡ has_wanted below }
 {
@@ -25,14 +25,14 @@ fn has_wanted(below: Below) -> bool
     }
 }
 
-// The class of a pattern where all that aren't wanted have one.
+// The class of a pattern, where all that aren't wanted have one class.
 fn wanted_or_other(class: u32) -> u32
     ensures { result ≡ wanted_or_other class }
 {
     if class == WANTED { WANTED } else { 0 }
 }
 
-// The classes of patterns where all that aren't wanted have one, so that these tell no states apart.
+// The classes of patterns, where all that aren't wanted have one class, so that these tell no states apart.
 fn wanted_or_others(alloc: Global, classes: &[u32]) -> Result<Vec<u32>, AllocError>
     ensures { IfOk result (λ others. others.items ≡ map wanted_or_other classes.now) }
 {
@@ -43,7 +43,7 @@ fn wanted_or_others(alloc: Global, classes: &[u32]) -> Result<Vec<u32>, AllocErr
     Ok(others)
 }
 
-// Whether a pattern that is wanted may end at each state or behind it.
+// Whether a pattern that is wanted may end at or after each state.
 fn marked(alloc: Global, belows: &Belows, count: usize) -> Result<Vec<bool>, AllocError>
     requires count { count ≡ length belows.now }
     requires few { count < 4294967296 }
@@ -56,7 +56,7 @@ fn marked(alloc: Global, belows: &Belows, count: usize) -> Result<Vec<bool>, All
     Ok(wanted)
 }
 
-/// Whether each state matters: a pattern of the class that is wanted ends there or behind it. `classes` has the class of each pattern.
+/// Whether each state matters: a pattern of the class `WANTED` may end at it or after it. `classes` has the class of each pattern.
 ///
 /// # Errors
 ///

@@ -1,4 +1,4 @@
-//! A text behind which a set lives.
+//! A text after which a set is live.
 
 ghost use Rattle.std.specs.Prelude.{◌<◌, ℕ, length, reverse, IfOk};
 ghost use Rattle.aa_glob_nfa.specs.Graphs.{AreBytes, Graph};
@@ -9,7 +9,7 @@ use crate::sets::Sets;
 use std::alloc::{AllocError, Global};
 
 impl Sets {
-    /// The text behind which the set of a number was found. Of all texts that lead to the set it is one of the shortest.
+    /// The text by which the set of a number was found. It is one of the shortest of all texts that lead to the set.
     ///
     /// # Errors
     ///

@@ -5,7 +5,7 @@ use Rattle.aa_glob_pattern.specs.Elements.{elements_of}
 use Rattle.aa_glob_pattern.specs.Reads.{Known, known, known_behind, reads, Texts}
 use Rattle.aa_glob_pattern.specs.Trails.{trail_of}
 
--- the bytes that were read, the last one first; before the first past, which is empty, there is none
+-- the bytes that were read, the last one first; `None` before the first past, which is empty
 abbrev pub Past : Type 0
 Past = Option (List ℕ)
 
@@ -14,7 +14,7 @@ abbrev pub is_none : Past → Bool
 is_none None = true
 is_none (Some past) = false
 
--- the past behind another one: it has this byte more, unless it is the first
+-- the past after another one: it has this byte more, unless it is the first
 abbrev pub next_past : ℕ → Past → List ℕ
 next_past byte None = []
 next_past byte (Some past) = byte ∷ past
@@ -24,7 +24,7 @@ abbrev pub is_among : Texts → Past → Bool
 is_among texts None = false
 is_among texts (Some past) = texts past
 
--- what is known behind so many elements, from what is known before the first
+-- what is known after so many elements, from what is known before the first
 abbrev pub known_at : Known → List Element → ℕ → Known
 known_at k es zero = k
 known_at k [] (suc at) = k
@@ -34,7 +34,7 @@ known_at k (e ∷ es) (suc at) = known_at (known_behind e k) es at
 abbrev pub is_active : List ℕ → Past → ℕ → Bool
 is_active text past at = is_among (known_at (known []) (elements_of text) at).here past
 
--- it is told of each beginning of a text, the empty one first, whether it is active; what stands behind them is anything
+-- for each beginning of a text, the empty one first, it is given whether it is active; anything may follow these
 abbrev pub AreActive : List ℕ → Past → List Bool → Type 0
 AreActive text past active = (at : ℕ) → at ≤ length (elements_of text) → get_or active at false ≡ is_active text past at
 
@@ -42,12 +42,12 @@ AreActive text past active = (at : ℕ) → at ≤ length (elements_of text) →
 abbrev pub AreUnset : List ℕ → List Bool → Type 0
 AreUnset text active = (at : ℕ) → at ≤ length (elements_of text) → get_or active at false ≡ false
 
--- what is active for any past goes over into what is for the past behind it by this byte
+-- what is active for any past is turned into what is active for the past that continues it by this byte
 abbrev pub ActiveGoesOn : List ℕ → Bool → ℕ → List Bool → List Bool → Type 0
 ActiveGoesOn text first byte before after =
     (past : Past) → first ≡ is_none past → AreActive text past before → AreActive text (Some (next_past byte past)) after
 
--- from what is active for any past it is told whether the past behind it by this byte reads the whole text
+-- from what is active for any past, the result says whether the past that continues it by this byte reads the whole text
 abbrev pub TellsWhole : List ℕ → Bool → ℕ → List Bool → Bool → Type 0
 TellsWhole text first byte before told =
     (past : Past) → first ≡ is_none past → AreActive text past before → told ≡ reads (trail_of text) (next_past byte past)

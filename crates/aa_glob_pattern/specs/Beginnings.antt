@@ -24,7 +24,7 @@ pub record AreAll (Holds : Trail → Type 0) (trails : List Trail) : Type 0 wher
 abbrev pub AreBeginnings : List (List ℕ) → List Trail → Type 0
 AreBeginnings texts trails = AreAll (IsBeginning texts) trails
 
--- so many different beginnings do the texts have, in whatever order they come and however often
+-- the texts have so many different beginnings, in whatever order and however often they come
 abbrev pub HasStates : List (List ℕ) → ℕ → Type 0
 HasStates texts n = (trails : List Trail) × AreBeginnings texts trails × (length trails ≡ n)
 

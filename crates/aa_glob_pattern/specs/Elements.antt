@@ -9,7 +9,7 @@ use Rattle.aa_glob_syntax.specs.declared.context.Context.TheVariants.{Elsewhere}
 use Rattle.aa_glob_syntax.specs.declared.element.Next.{Next}
 use Rattle.aa_glob_pattern.specs.Trails.{depth_behind, grouped}
 
--- an element may stand in so many groups
+-- an element that may come where so many groups are open
 abbrev pub MayStand : ℕ → Element → Type 0
 MayStand depth (Single item) = Unit
 MayStand depth Open = depth < deepest
@@ -17,12 +17,12 @@ MayStand depth Comma = 0 < depth
 MayStand depth Close = 0 < depth
 MayStand depth (Fault error) = ⊥
 
--- each of these elements may stand in as many groups as are open before it
+-- each of these elements may come where as many groups are open as are before it
 abbrev pub EachMayStand : ℕ → List Element → Type 0
 EachMayStand depth [] = Unit
 EachMayStand depth (e ∷ es) = MayStand depth e × EachMayStand (depth_behind depth e) es
 
--- what is left of a text, which stands in a context and in so many groups
+-- what is left of a text, with this context and so many open groups
 abbrev pub elements_left : ℕ → Context → List ℕ → List Element
 elements_left depth context text = grouped depth (elements context (symbols text))
 
@@ -30,7 +30,7 @@ elements_left depth context text = grouped depth (elements context (symbols text
 abbrev pub elements_of : List ℕ → List Element
 elements_of text = elements_left 0 Elsewhere text
 
--- the elements of a text that stands in so many groups, told by what comes next in it
+-- the elements of a text within so many groups, by what comes next in it
 abbrev pub left_from : ℕ → Option Next → List Element
 left_from depth None = []
 left_from depth (Some next) = meaning next.element ∷ elements_left (depth_behind depth (meaning next.element)) next.context next.rest.now

@@ -1,4 +1,4 @@
--- What holds of trails, and of patterns that overlap.
+-- Properties of trails, and of patterns that overlap.
 use Rattle.std.specs.Prelude.{◌≡◌, ◌↔◌, ℕ, ◌<◌, ◌≤◌, Bool, true, false, Contains, Decides, IsTrue, List, [], ◌∷◌, ◌++◌, length, Ok, reverse}
 use Rattle.std.specs.List.{IsDistinct}
 use Rattle.aa_glob_syntax.specs.Elements.{Element, Single, Open, Comma, Close, Fault, elements}
@@ -25,7 +25,7 @@ WholeTrailsAreMatched =
     → reading text ≡ Ok (items_of text)
     → reads (trail_of text) (reverse path) ≡ matches (items_of text) path
 
--- a trail is read by what reads its last element behind what reads one of its sources
+-- a text reads a trail if it is a text that reads one of the trail's sources, followed by what the trail's last element takes
 abbrev pub TrailsAreReadBehindSources : Type 0
 TrailsAreReadBehindSources =
     (e : Element) (trail : Trail) (past : List ℕ)
@@ -45,21 +45,21 @@ IsShorterBeginning shorter trail = (more : List Element) × (more ++ shorter ≡
 abbrev pub SourcesAreShorter : Type 0
 SourcesAreShorter = (trail source : Trail) → Contains (sources trail) source → IsShorterBeginning source trail
 
--- the trail behind another one begins with it
+-- the trail that continues another one begins with it
 abbrev pub TrailsGrowInFront : Type 0
 TrailsGrowInFront = (depth : ℕ) (es : List Element) (trail : Trail) → trail_behind trail depth es ≡ reverse (grouped depth es) ++ trail
 
--- a pattern's trail is the one behind the empty trail when all elements of its text are read
+-- a pattern's trail is the one that continues the empty trail by all elements of its text
 abbrev pub WholeTrailsGrowByElements : Type 0
 WholeTrailsGrowByElements = (text : List ℕ) → trail_of text ≡ trail_behind [] 0 (elements Elsewhere (symbols text))
 
--- as many groups are open behind a trail as were opened and not closed
+-- as many groups are open after a trail as were opened and not closed
 abbrev pub DepthIsOfOpenGroups : Type 0
 DepthIsOfOpenGroups =
     (e : Element) (trail : Trail)
     → length (groups_of (element_within (length (groups_of trail)) e ∷ trail)) ≡ depth_behind (length (groups_of trail)) e
 
--- an element that has its meaning from the group that it stands in: a comma or a closing brace
+-- an element whose meaning depends on the group that it is in: a comma or a closing brace
 abbrev pub is_of_group : Element → Bool
 is_of_group (Single item) = false
 is_of_group Open = false
@@ -67,12 +67,12 @@ is_of_group Comma = true
 is_of_group Close = true
 is_of_group (Fault error) = false
 
--- each comma and each closing brace of a trail stands in a group
+-- each comma and each closing brace of a trail is in a group
 abbrev pub StandsInGroups : Trail → Type 0
 StandsInGroups [] = Unit
 StandsInGroups (e ∷ trail) = (is_of_group e ≡ true → 0 < length (groups_of trail)) × StandsInGroups trail
 
--- in a text that reads as a pattern each comma and each closing brace stands in a group, but for commas that stand for themselves
+-- in a text that reads as a pattern each comma and each closing brace is in a group, but for commas that stand for themselves
 abbrev pub WholeTrailsStandInGroups : Type 0
 WholeTrailsStandInGroups = (text : List ℕ) → reading text ≡ Ok (items_of text) → StandsInGroups (trail_of text)
 
@@ -80,7 +80,7 @@ WholeTrailsStandInGroups = (text : List ℕ) → reading text ≡ Ok (items_of t
 abbrev pub BeginningsStandInGroups : Type 0
 BeginningsStandInGroups = (later : List Element) (trail : Trail) → StandsInGroups (later ++ trail) → StandsInGroups trail
 
--- in a text that reads as a pattern each element may stand in as many groups as are open before it
+-- in a text that reads as a pattern each element may come where as many groups are open as are before it
 abbrev pub WholeTextsStand : Type 0
 WholeTextsStand = (text : List ℕ) → reading text ≡ Ok (items_of text) → EachMayStand 0 (elements_of text)
 
@@ -88,7 +88,7 @@ WholeTextsStand = (text : List ℕ) → reading text ≡ Ok (items_of text) → 
 abbrev pub WholeTrailsAreElements : Type 0
 WholeTrailsAreElements = (text : List ℕ) → trail_of text ≡ reverse (elements_of text)
 
--- as many groups are open behind an element of a trail as it leaves open
+-- as many groups are open after an element of a trail as it leaves open
 abbrev pub DepthIsOfElements : Type 0
 DepthIsOfElements = (e : Element) (trail : Trail) → length (groups_of (e ∷ trail)) ≡ depth_behind (length (groups_of trail)) e
 
@@ -100,7 +100,7 @@ StatesHaveOneCount = (texts : List (List ℕ)) (n m : ℕ) → HasStates texts n
 abbrev pub StatesAreFew : Type 0
 StatesAreFew = (texts : List (List ℕ)) (n : ℕ) → HasStates texts n → n ≤ most_states texts
 
--- the same texts in another order, or more often, have as many different beginnings
+-- the same texts in another order, or repeated, have as many different beginnings
 abbrev pub SameTextsHaveSameStates : Type 0
 SameTextsHaveSameStates =
     (texts others : List (List ℕ)) (n : ℕ)
@@ -128,7 +128,7 @@ KnownTrailIsMet =
     (texts : List (List ℕ)) (trail : Trail) (trails : List Trail) (e : Element)
     → Begun texts trail trails → Contains trails (e ∷ trail) → Begun texts (e ∷ trail) trails
 
--- an element leads to a trail that isn't there yet, and is added
+-- an element leads to a trail that isn't there yet, which is added
 abbrev pub NewTrailIsAdded : Type 0
 NewTrailIsAdded =
     (texts : List (List ℕ)) (trail : Trail) (trails : List Trail) (e : Element)

@@ -1,4 +1,4 @@
--- That elements stand as they may is known in one way at most.
+-- That elements may come where they do is known in one way at most.
 use Rattle.std.proofs.Common.{ℕ, List, [], ◌∷◌}
 use Rattle.std.proofs.Props.{props}
 use Rattle.aa_glob_syntax.specs.Elements.{Element, Single, Open, Comma, Close, Fault}

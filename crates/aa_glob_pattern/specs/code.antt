@@ -1,4 +1,4 @@
--- What the code's own forms mean: what a pattern keeps beside its text. No public contract names these.
+-- What the code's own forms mean: what a pattern keeps with its text. No public contract names these.
 pub mod Facts
 pub mod Passes
 pub mod Places

@@ -1,4 +1,4 @@
-//! The elements of a text that reads as a pattern, each within the groups that it stands in.
+//! The elements of a text that reads as a pattern, each with how deep it is nested in groups.
 
 ghost use Rattle.std.specs.Prelude.{◌≡◌};
 ghost use Rattle.aa_glob_syntax.specs.Cursor.{meaning};
@@ -9,12 +9,12 @@ ghost use Rattle.aa_glob_pattern.specs.Trails.{depth_behind, element_within};
 use crate::laws::which_elements_stand;
 use aa_glob_syntax::{Context, Element, Next, next_element};
 
-/// A text that reads as a pattern, as far as it is left to read.
+/// What is left to read of a text that reads as a pattern. A cursor: it borrows the text, and takes no memory.
 #[derive(Clone, Copy)]
 pub struct Elements<'a> {
-    /// In how many groups the next element stands.
+    /// How many groups are open before the next element.
     depth: u32,
-    /// The context that it stands in.
+    /// The context of the next element.
     context: Context,
     rest: &'a [u8],
     ghost stand: { EachMayStand depth (elements_left depth context rest.now) } by { stand-prop depth (elements_left depth context rest.now) },
@@ -28,7 +28,7 @@ impl<'a> Elements<'a> {
     ghost use Rattle.aa_glob_pattern.specs.Left.{left_in};
     ghost use Rattle.aa_glob_pattern.specs.Trails.{depth_behind};
 
-    /// The elements of a text that reads as a pattern.
+    /// A cursor at the beginning of a text that reads as a pattern.
     pub fn of(text: &'a [u8]) -> Elements<'a>
         requires { reading text.now ≡ Ok (items_of text.now) }
         ensures all { left_in result ≡ elements_of text.now }
@@ -43,7 +43,7 @@ impl<'a> Elements<'a> {
         }
     }
 
-    /// Reads the next element; at the text's end there is none. A comma outside groups is read as the byte for which it stands.
+    /// Reads the next element; returns `None` at the text's end. A comma outside groups is read as the byte for which it stands.
     pub fn next(&mut self) -> Option<Element<'a>>
         ensures found { IfSome result (λ element. left_in self.old ≡ meaning element ∷ left_in self.new) }
         ensures depth { IfSome result (λ element. self.new.depth ≡ depth_behind self.old.depth (meaning element)) }
@@ -65,7 +65,7 @@ impl<'a> Elements<'a> {
     }
 }
 
-// The next element of a text that stands in so many groups.
+// The next element of a text, where so many groups are open.
 fn next_within<'a>(depth: u32, context: Context, text: &'a [u8]) -> Option<Next<'a>>
     requires { EachMayStand depth (elements_left depth context text.now) }
     ensures found { elements_left depth context text.now ≡ left_from depth result }
@@ -97,7 +97,7 @@ fn element_within<'a>(depth: u32, element: Element<'a>) -> Element<'a>
     }
 }
 
-// How many groups are open behind an element that stands in so many.
+// How many groups are open after an element before which so many were.
 fn depth_behind(depth: u32, element: Element<'_>) -> u32
     requires { MayStand depth (meaning element) }
     ensures { result ≡ depth_behind depth (meaning element.entry) }

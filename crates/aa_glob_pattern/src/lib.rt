@@ -1,5 +1,5 @@
-//! AppArmor's path patterns: read exactly, refused exactly, matched exactly; and their beginnings: which texts read them, and whether
-//! two patterns overlap.
+//! AppArmor's path patterns: reading them, or refusing them with the fault; matching one against a path; the beginnings of patterns, which texts
+//! read one, and whether two patterns overlap. `aa_glob` passes on what callers need.
 #![tactic(auto)]
 
 mod elements;

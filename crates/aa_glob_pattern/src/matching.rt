@@ -1,4 +1,4 @@
-//! Matching of a path, from its first byte to its last, by the beginnings of a pattern's text that it reads.
+//! Matching of a path, byte by byte, by the set of the beginnings of a pattern's text that the path so far reads (the active ones).
 
 ghost use Rattle.std.specs.Prelude.{◌≡◌, ◌<◌, ◌≤◌, ◌+◌, ◌*◌, length, None, Ok};
 ghost use Rattle.aa_glob_syntax.specs.Matching.{matches};
@@ -11,14 +11,14 @@ use crate::pass::pass;
 // How many beginnings there may be: two elements for each byte of the longest pattern, and the empty beginning.
 const MOST_PREFIXES: usize = 8_193;
 
-/// Whether a path, of any bytes, matches the pattern that a text reads as (`docs/policy.md`, "Patterns"). A directory's path has to end with
-/// `/`, which the caller writes. It takes no memory. The text is read again for each byte of the path, until none of its beginnings is read
-/// by the bytes so far: so the work grows with the length of the path times that of the text, and an automaton answers the same sooner.
+/// Whether a path, of any bytes, matches the pattern that a text reads as (`docs/policy.md`, "Patterns"). A directory's path has to end with `/`,
+/// which the caller writes. It takes no memory. The text is read again for each byte of the path, until none of its beginnings is read by the bytes
+/// so far: so the work is `O(n * m)` for n bytes of path and m bytes of text. An automaton (`aa_glob`) answers the same question sooner.
 pub fn matches_text(text: &[u8], path: &[u8]) -> bool
     requires { reading text.now ≡ Ok (items_of text.now) }
     ensures { result ≡ matches (items_of text.now) path.now }
 {
-    // The room is cleared at each call, so a text gets one of about its size.
+    // The room is cleared at each call, so it is chosen by the text's length.
     match text.len() {
         0..=31 => matches_within::<64>(text, path),
         32..=63 => matches_within::<128>(text, path),
@@ -31,7 +31,7 @@ pub fn matches_text(text: &[u8], path: &[u8]) -> bool
     }
 }
 
-// The same, with room for so many beginnings on the stack, which is cleared: at most four for each byte of the text, or 64.
+// Matches with room for `ROOM` beginnings on the stack, which is cleared: at most four for each byte of the text, or 64.
 fn matches_within<const ROOM: usize>(text: &[u8], path: &[u8]) -> bool
     requires reads { reading text.now ≡ Ok (items_of text.now) }
     requires room { 2 * length text.now < ROOM }
@@ -42,7 +42,7 @@ fn matches_within<const ROOM: usize>(text: &[u8], path: &[u8]) -> bool
     matches_in(text, path, &mut room)
 }
 
-// The same, in this room for what is active, in which nothing is yet.
+// Matches with this room for the active beginnings, none of which is active yet.
 fn matches_in(text: &[u8], path: &[u8], active: &mut [bool]) -> bool
     requires reads { reading text.now ≡ Ok (items_of text.now) }
     requires room { 2 * length text.now < length active.old }
@@ -52,7 +52,7 @@ fn matches_in(text: &[u8], path: &[u8], active: &mut [bool]) -> bool
     what_reads_to_the_end_matches();
     let mut passed = pass(true, 0, text, active);
     for byte in path {
-        // What reads no beginning reads none with more bytes.
+        // A path so far that reads no beginning reads none with more bytes either.
         if !passed.some {
             return false;
         }

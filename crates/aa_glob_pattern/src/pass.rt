@@ -1,4 +1,4 @@
-//! Passes over a pattern's text, of which each writes what is active behind one byte of the path more.
+//! Passes over a pattern's text, one for each byte of the path: each writes which beginnings are active after this byte.
 
 ghost use Rattle.std.specs.Prelude.{◌≡◌, ◌<◌, ◌*◌, ◌||◌, length, false, Ok};
 ghost use Rattle.aa_glob_syntax.specs.Reading.{items_of, reading};
@@ -7,17 +7,17 @@ ghost use Rattle.aa_glob_pattern.specs.Active.{AreUnset, ActiveGoesOn, TellsWhol
 use crate::elements::Elements;
 use crate::places::Places;
 
-/// What a pass tells of its past.
+/// What a pass finds of the path so far.
 #[derive(Clone, Copy)]
 pub struct Passed {
-    /// Whether it reads the whole text.
+    /// Whether the path so far reads the whole text.
     pub whole: bool,
-    /// Whether it reads some beginning of the text.
+    /// Whether the path so far reads some beginning of the text.
     pub some: bool,
 }
 
-/// Writes what is active for the past that has this byte more over what is for the past without it. The first past, which is empty, has no byte
-/// more: the byte that is given for it is not looked at, and nothing is active before.
+/// Overwrites which beginnings are active for the path so far without this byte by those that are active with it. The first pass is for the empty
+/// path: its byte isn't looked at, and no beginning is active before it. It takes no memory; `O(m)` in the length of the text.
 pub fn pass(first: bool, byte: u8, text: &[u8], active: &mut [bool]) -> Passed
     requires reads { reading text.now ≡ Ok (items_of text.now) }
     requires room { 2 * length text.now < length active.old }

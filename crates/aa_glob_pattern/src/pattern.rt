@@ -1,4 +1,4 @@
-//! Patterns: texts that were read, with what is asked of them often.
+//! Patterns: texts that read as one, with what is often asked of them.
 
 ghost use Rattle.std.specs.Prelude.{◌≡◌, ◌≢◌, ◌↔◌, Ok, Err, IfOk, IfErr, IsTrue};
 ghost use Rattle.aa_glob_syntax.specs.Exactness.{is_exact, literal_prefix};
@@ -12,13 +12,13 @@ use aa_glob_syntax::{PatternError, check_pattern};
 use std::alloc::{AllocError, Global};
 use std::marker::Model;
 
-/// A pattern of paths. Contracts see its text, which reads as a pattern (`docs/policy.md`, "Patterns").
+/// A pattern of paths, which owns its text. Contracts see that text, which reads as a pattern (`docs/policy.md`, "Patterns").
 #[derive(Debug, Drop)]
 pub struct Pattern {
     text: Vec<u8>,
     // Whether all items are bytes that stand for themselves.
     exact: bool,
-    // How many items stand before the first that isn't a byte for itself.
+    // How many items come before the first that isn't a byte for itself.
     prefix: usize,
 }
 
@@ -34,22 +34,23 @@ impl Model for Pattern {
 }
 
 impl Pattern {
-    /// Reads a text, of any bytes, as a pattern. The text is taken as it is: variables and runs of slashes are the
-    /// caller's.
+    /// Reads a text, of any bytes, as a pattern, and copies it. Variables aren't expanded and runs of slashes aren't collapsed: both are for the
+    /// caller to do before. `O(n)` in the length of the text; it allocates the copy alone.
     ///
-    /// Refused are, in this order: a text of more than 4,096 bytes (`TooLong`), a zero byte in it (`ZeroByte`), one that
-    /// doesn't begin with `/` (`NotAbsolute`), and then the first fault from the left: `EmptyClass`, `BadRange`,
-    /// `StrayClose`, `FewAlternatives`, `BadEscape` and `TooDeep` where they are met, `UnclosedClass` and `UnclosedGroup`
-    /// at the text's end, a class before a group. The rules are those of apparmor.d(5), "Globbing"; `docs/policy.md` has
-    /// them whole.
+    /// # Errors
     ///
-    /// None of these takes memory: each is told, whatever memory there is. `Memory` is told of a text alone that reads
-    /// as a pattern, of which memory has no copy.
+    /// In this order: `TooLong` for a text of more than 4,096 bytes, `ZeroByte`, `NotAbsolute` for one that doesn't begin with `/`, and then the
+    /// first fault from the left: `EmptyClass`, `BadRange`, `StrayClose`, `FewAlternatives`, `BadEscape` and `TooDeep` where they are met,
+    /// `UnclosedClass` and `UnclosedGroup` at the text's end, a class before a group. The rules are those of apparmor.d(5), "Globbing";
+    /// `docs/policy.md` has them whole.
+    ///
+    /// None of these takes memory, so each is returned however little memory there is. `Memory` is returned only for a text that reads as a pattern,
+    /// where its copy can't be allocated.
     pub fn read(alloc: Global, text: &[u8]) -> Result<Pattern, PatternError>
         ensures text { IfOk result (λ pattern. pattern ≡ text.now) }
         ensures read { IfOk result (λ pattern. reading text.now ≡ Ok (items_of text.now)) }
         ensures refused { IfErr result (λ error. error ≢ Memory → reading text.now ≡ Err error) }
-        // A text that is refused is told so without memory.
+        // A text is refused without allocating.
         ensures memory { IfErr result (λ error. error ≡ Memory → reading text.now ≡ Ok (items_of text.now)) }
     {
         let facts = check_pattern(text)?;
@@ -61,8 +62,12 @@ impl Pattern {
         })
     }
 
-    /// Reads a text that it takes over, as `read` does. No refusal needs memory, so none is `Memory`. Room that the text
-    /// doesn't fill is given back, where there is memory for its smaller place.
+    /// Reads a text as a pattern as `read` does, but takes the text over in place of copying it. `O(n)` in the length of the text. Unused capacity
+    /// of the vector is given back where the allocator can.
+    ///
+    /// # Errors
+    ///
+    /// As `read`, and never `Memory`.
     pub fn from_vec(text: Vec<u8>) -> Result<Pattern, PatternError>
         ensures text { IfOk result (λ pattern. pattern ≡ text.items) }
         ensures read { IfOk result (λ pattern. reading text.items ≡ Ok (items_of text.items)) }
@@ -79,8 +84,8 @@ impl Pattern {
         })
     }
 
-    /// Whether a text matches the pattern. A directory's path has to end with `/`, which the caller writes. It takes no
-    /// memory, and its work grows with the length of the text times that of the pattern's: an automaton answers the same sooner.
+    /// Whether a path, of any bytes, matches the pattern. A directory's path has to end with `/`, which the caller writes. It takes no memory; `O(n
+    /// * m)` for n bytes of path and m bytes of pattern. To match many patterns at once, use `Automaton` of `aa_glob`.
     pub fn matches(&self, text: &[u8]) -> bool
         ensures test { result ≡ matches (items_of self.now) text.now }
         ensures relation { IsTrue result ↔ Matches (items_of self.now) text.now }
@@ -89,22 +94,22 @@ impl Pattern {
         matches_text(&self.text, text)
     }
 
-    /// Whether all items are bytes that stand for themselves, so that one text alone matches the pattern. A class of one
-    /// byte is none. It takes no memory.
+    /// Whether all items are bytes that stand for themselves, so that one text alone matches the pattern. A class of one byte is none. It takes no
+    /// memory; `O(1)`.
     pub fn is_exact(&self) -> bool
         ensures { result ≡ is_exact (items_of self.now) }
     {
         self.exact
     }
 
-    /// How many items stand before the first that isn't a byte for itself, an escaped byte being one. It takes no memory.
+    /// How many items come before the first that isn't a byte for itself; an escaped byte is one. It takes no memory; `O(1)`.
     pub fn literal_prefix(&self) -> usize
         ensures { result ≡ literal_prefix (items_of self.now) }
     {
         self.prefix
     }
 
-    /// The text that was read. It takes no memory.
+    /// The text of the pattern. It takes no memory; `O(1)`.
     pub fn text(&self) -> &[u8]
         ensures text { result.now ≡ self.now }
         ensures reads { reading self.now ≡ Ok (items_of self.now) }
@@ -112,7 +117,11 @@ impl Pattern {
         self.text.as_slice()
     }
 
-    /// An equal pattern, or `AllocError` where memory ran out.
+    /// A copy of the pattern.
+    ///
+    /// # Errors
+    ///
+    /// Where memory runs out.
     pub fn try_copy(&self, alloc: Global) -> Result<Pattern, AllocError>
         ensures { IfOk result (λ copy. copy ≡ self.now) }
     {

@@ -1,17 +1,17 @@
-//! Places of a pattern's text, each with what a past reads up to there.
+//! Places in a pattern's text, each with what a path reads up to there.
 
 ghost use Rattle.std.specs.Prelude.{◌≡◌, length};
 
 use aa_glob_syntax::{BitStack, Element};
 
-/// What is known of a past at a place of the text.
+/// What is known of a past, the path so far, at a place in the text.
 #[derive(Clone, Copy)]
 pub struct Place {
     /// Whether the past reads the beginning up to here.
     here: bool,
-    /// Whether it reads the beginning of the alternatives of each open group, the innermost on top.
+    /// For each open group, the innermost on top, whether the past reads the beginning before its alternatives.
     beginnings: BitStack,
-    /// Whether it reads one of their ends so far.
+    /// For each open group whether the past reads one of its alternatives that have ended so far.
     ends: BitStack,
     ghost same: { length beginnings ≡ length ends },
 }
@@ -27,7 +27,7 @@ impl Place {
     ghost use Rattle.aa_glob_pattern.specs.Active.{is_among, Past};
     ghost use Rattle.aa_glob_pattern.specs.code.Places.{GoesOver, IsAt};
 
-    /// The beginning of the text.
+    /// The place at the beginning of the text.
     pub fn beginning(here: bool) -> Place
         ensures here { result.here ≡ here }
         ensures beginnings { result.beginnings ≡ [] }
@@ -47,7 +47,7 @@ impl Place {
         self.here
     }
 
-    /// Whether the past reads what leads to an element that stands here.
+    /// Whether the past reads what leads to this element, if it comes next here.
     pub fn leading(&self, element: Element) -> bool
         requires { MayStand (length self.now.beginnings) (meaning element) }
         ensures { (past : Past) (k : Known) → IsAt past k self.now → result ≡ is_among (leading (meaning element.entry) k.here k.groups) past }
@@ -59,7 +59,7 @@ impl Place {
         }
     }
 
-    // Whether the past reads one of the ends of the innermost group's alternatives, of which the last is here.
+    // Whether the past reads one of the ends of the innermost group's alternatives, the last of which ends here.
     fn at_end(&self) -> bool
         requires { 0 < length self.now.beginnings }
         ensures { (past : Past) (k : Known) → IsAt past k self.now → result ≡ is_among (leading Close k.here k.groups) past }
@@ -67,7 +67,7 @@ impl Place {
         self.here || self.ends.top()
     }
 
-    /// The place behind an element, which is active or not.
+    /// The place after an element; the caller says whether this place is active.
     pub fn behind(&self, element: Element, is_active: bool) -> Place
         requires { MayStand (length self.now.beginnings) (meaning element) }
         ensures known { GoesOver self.now (meaning element.entry) is_active result }
@@ -85,7 +85,7 @@ impl Place {
         }
     }
 
-    // The place behind a brace that begins a group.
+    // The place after a brace that opens a group.
     fn opened(&self, is_active: bool) -> Place
         requires { length self.now.beginnings < 16 }
         ensures known { GoesOver self.now Open is_active result }
@@ -98,7 +98,7 @@ impl Place {
         }
     }
 
-    // The place behind a comma: an alternative of the innermost group ends here.
+    // The place after a comma: an alternative of the innermost group ends here.
     fn with_end(&self, is_active: bool) -> Place
         requires { 0 < length self.now.beginnings }
         ensures known { GoesOver self.now Comma is_active result }
@@ -111,7 +111,7 @@ impl Place {
         }
     }
 
-    // Of which groups the past reads an end, where an alternative of the innermost ends here.
+    // For which groups the past reads an end, where an alternative of the innermost one ends here.
     fn ends_with_one(&self) -> BitStack
         requires { 0 < length self.now.beginnings }
         ensures { result ≡ (if self.now.here then with_innermost (λ _. true) self.now.ends else self.now.ends) }
@@ -123,7 +123,7 @@ impl Place {
         }
     }
 
-    // The place behind a brace that closes the innermost group.
+    // The place after a brace that closes the innermost group.
     fn closed(&self, is_active: bool) -> Place
         requires { 0 < length self.now.beginnings }
         ensures known { GoesOver self.now Close is_active result }

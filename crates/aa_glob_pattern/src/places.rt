@@ -1,4 +1,4 @@
-//! Places of a pattern's text, each with what a past reads up to there and what the past before did.
+//! Places in a pattern's text, each with what is read up to there by the path so far, and by the path without its last byte.
 
 ghost use Rattle.std.specs.Prelude.{◌≡◌, length};
 
@@ -6,7 +6,7 @@ use crate::place::Place;
 use aa_bytes::is_inside;
 use aa_glob_syntax::Element;
 
-/// What is known of two pasts at a place of the text, of which one has a byte more.
+/// What is known at a place in the text of two pasts, of which one is the other with one more byte.
 #[derive(Clone, Copy)]
 pub struct Places {
     /// What is known of the past without the byte.
@@ -25,7 +25,7 @@ impl Places {
     ghost use Rattle.aa_glob_pattern.specs.Reads.{Known, known, known_behind};
     ghost use Rattle.aa_glob_pattern.specs.Trails.{depth_behind};
 
-    /// The beginning of the text, by whether it is active for each past.
+    /// The place at the beginning of the text, by whether it is active for each past.
     pub fn beginning(before: bool, after: bool) -> Places
         ensures known { (past : Past) (byte : ℕ) → before ≡ is_among (known []).here past → after ≡ is_none past → AreAt past byte (known []) result }
         ensures depth { length result.after.beginnings ≡ 0 }
@@ -43,7 +43,7 @@ impl Places {
         self.after.here()
     }
 
-    /// The places behind an element; it is given whether it was active for the past without the byte.
+    /// The place after an element; `own` says whether it is active for the past without the byte.
     pub fn behind(&self, byte: u8, element: Element, own: bool) -> Places
         requires { MayStand (length self.now.after.beginnings) (meaning element) }
         ensures known { (past : Past) (k : Known) → AreAt past byte k self.now → own ≡ is_among (known_behind (meaning element.entry) k).here past
@@ -63,8 +63,8 @@ impl Places {
         }
     }
 
-    // Whether the place behind an element is active for the past with the byte: by whether what leads to the element is, and the element itself
-    // for the past without the byte.
+    // Whether the place after an element is active for the past with the byte: by whether what leads to the element is active for each past, and by
+    // whether the place itself is active for the past without the byte.
     fn active_behind(element: Element, byte: u8, before: bool, now: bool, own: bool) -> bool
         ensures { result ≡ active_behind element.entry byte before now own }
     {

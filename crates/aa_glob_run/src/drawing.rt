@@ -1,4 +1,4 @@
-//! Automata while they are made.
+//! Automata while they are built.
 
 ghost use Rattle.std.specs.Prelude.{◌≡◌, ◌<◌, length, IfOk, OnOk, OnErr};
 ghost use Rattle.aa_glob_nfa.specs.Graphs.{AddsEnd, AddsWay, IsState, SameGraph, SameRuns, start_alone, with_entry};
@@ -8,7 +8,7 @@ use aa_glob_nfa::{Entry, Tables};
 use std::alloc::{AllocError, Global};
 use std::marker::Model;
 
-/// An automaton while it is made: states with their entries, ways from state to state, and ends of patterns. State 0 is the start.
+/// An automaton while it is built: states with their entries, ways from state to state, and ends of patterns. State 0 is the start.
 ///
 /// Contracts see the graph: its entries, ways and ends. It has at most 2^32 - 1 states.
 #[derive(Drop)]
@@ -41,11 +41,11 @@ impl Drawing {
         })
     }
 
-    /// Adds a state with this entry. Its number is how many there were before.
+    /// Adds a state with this entry, and returns its number: how many there were before.
     ///
     /// # Errors
     ///
-    /// Where memory runs out, and where there are 2^32 - 1 states already. What is drawn then is not said.
+    /// Where memory runs out, and where there are 2^32 - 1 states already. Nothing is promised then about the graph.
     pub fn add(&mut self, entry: Entry) -> Result<u32, AllocError>
         ensures number { IfOk result (λ number. number ≡ length self.old.entries) }
         ensures added { OnOk result (self.new ≡ with_entry entry self.old) }
@@ -53,11 +53,11 @@ impl Drawing {
         self.tables.add(&entry)
     }
 
-    /// Draws a way from a state to a state. A way from one to the next takes no memory.
+    /// Adds a way from a state to a state. A way to the next state takes no memory.
     ///
     /// # Errors
     ///
-    /// Where memory runs out. What is drawn is then as it was.
+    /// Where memory runs out. The graph is then as it was.
     pub fn link(&mut self, from: u32, to: u32) -> Result<(), AllocError>
         requires from { IsState self.old from }
         requires to { IsState self.old to }
@@ -67,11 +67,11 @@ impl Drawing {
         self.tables.link(from, to)
     }
 
-    /// Makes a state an end of a pattern, beside those that it is an end of already.
+    /// Makes a state an end of a pattern, in addition to those that end there already.
     ///
     /// # Errors
     ///
-    /// Where memory runs out. What is drawn is then as it was.
+    /// Where memory runs out. The graph is then as it was.
     pub fn end(&mut self, state: u32, pattern: u32) -> Result<(), AllocError>
         requires { IsState self.old state }
         ensures added { OnOk result (AddsEnd self.old self.new state pattern) }

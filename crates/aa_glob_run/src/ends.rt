@@ -1,4 +1,4 @@
-//! The patterns of which an end is reached behind a text.
+//! The patterns whose ends a text reaches.
 
 ghost use Rattle.std.specs.Prelude.{◌<◌, length, AllPairs, IfOk, OnOk};
 ghost use Rattle.aa_glob_nfa.specs.Steps.{IsCounted, most_visits};
@@ -13,7 +13,7 @@ use crate::recall::known_far;
 use aa_glob_nfa::{Front, Steps, Tables, run, run_on};
 use std::alloc::{AllocError, Global};
 
-// The patterns of which an end is reached behind a text: by what is remembered as far as it goes, and by a run from there on.
+// The patterns whose ends a text reaches: by what is remembered, as far as that goes, and by a run from there on.
 pub fn ends(
     alloc: Global,
     tables: &Tables,

@@ -1,4 +1,5 @@
-//! Automata while they are drawn and when they are finished, which find all patterns that match a text together, and remember what they found on the way.
+//! Automata while they are built and when they are finished; a finished one finds all patterns that match a text in one run, and can remember what
+//! it found on the way. Nothing here knows of patterns' texts.
 #![tactic(auto)]
 
 mod drawing;

@@ -1,4 +1,4 @@
-//! What is remembered of runs: the states that live together at a place, and which follow behind a byte.
+//! What is remembered of runs: the states that are live together at a place, and which are live after a byte.
 
 ghost use Rattle.std.specs.Prelude.{◌≡◌, ◌<◌, ◌++◌, ◌∷◌, [], ℕ, false, length, IfSome, OnOk, OnErr, IfOk};
 ghost use Rattle.aa_glob_nfa.specs.Graphs.{Graph};
@@ -9,33 +9,33 @@ use std::alloc::{AllocError, Global};
 // How many lists are remembered at most.
 const MOST_FRONTS: usize = 8192;
 
-// So many lists aren't remembered, for want of room, before all are forgotten to make room.
+// So many lists are turned away for lack of room before all are forgotten to make room.
 const PATIENCE: usize = 16384;
 
-// By how many remainders lists are found.
+// How many buckets lists are found by.
 const BUCKETS: usize = 16384;
 
-// So many of the moves that were looked for in vain are noted at once.
+// How many of the moves that were looked for in vain are kept at once.
 const MOST_MISSED: usize = 4096;
 
-// The row of a list behind which nothing is known yet.
+// The row of a list of which no move is known yet.
 const UNKNOWN_ROW: [u16; 256] = [0; 256];
 
-// Lists of states, and the moves between them that are known. A list that is found by a remainder is looked at.
+// Lists of live states, and the moves between them that are known. A list that is found by its bucket is compared.
 #[derive(Drop)]
 pub struct Memo {
     fronts: Vec<Vec<u32>>,
-    // A row for each list, with a place for each byte: the number of the list behind it, and one more; 0 where it isn't known.
+    // A row for each list, with an entry for each byte: one more than the number of the list after it; 0 where it isn't known.
     moves: Vec<u16>,
-    // For each remainder of a list's states the number of the last list.
+    // For each bucket the number of the last list that was added to it.
     buckets: Vec<u16>,
-    // Moves that were looked for in vain, each by its key at a remainder of it.
+    // Moves that were looked for in vain, each by its key, in the bucket of that key.
     missed: Vec<u32>,
     // How many lists weren't remembered.
     turned_away: usize,
 }
 
-// The remainder by which a list is found.
+// The bucket of a list.
 fn bucket_of(states: &[u32]) -> usize {
     let mut sum: u32 = 0;
     for state in states {
@@ -44,18 +44,18 @@ fn bucket_of(states: &[u32]) -> usize {
     (sum >> 18) as usize
 }
 
-// The number of a list and a byte, as one number; none is 0.
+// A list's number and a byte as one key, which is never 0.
 fn key_of(number: usize, byte: u8) -> u32 {
     (number % 65_536) as u32 * 256 + u32::from(byte) + 1
 }
 
-// The remainder by which a move that was missed is noted.
+// The bucket in which a missed move is kept.
 fn remainder_of(key: u32) -> usize {
     (key.wrapping_mul(2_654_435_761) >> 20) as usize
 }
 
 impl Memo {
-    // Nothing. It takes no memory.
+    // The memory of no run. It takes no memory.
     pub fn new(alloc: Global) -> Memo
         ensures { IsEmpty result }
     {
@@ -75,7 +75,7 @@ impl Memo {
         self.fronts.len()
     }
 
-    // Whether there is no room for a list more.
+    // Whether there is no room for another list.
     pub fn is_full(&self) -> bool
         ensures { result ≡ false → length (fronts_in self.now) < most_fronts }
     {
@@ -90,7 +90,7 @@ impl Memo {
         &self.fronts[number]
     }
 
-    // The number of the list that is known to follow behind a byte, if one is.
+    // The number of the list that is known to follow by a byte, if one is.
     pub fn behind(&self, number: usize, byte: u8) -> Option<usize>
         requires rows { HasRows self.now }
         requires within { number < length (fronts_in self.now) }
@@ -113,7 +113,7 @@ impl Memo {
         }
     }
 
-    // Notes which list follows behind a byte.
+    // Notes which list follows by a byte.
     pub fn note(&mut self, number: usize, byte: u8, behind: usize)
         requires rows { HasRows self.old }
         requires from { number < length (fronts_in self.old) }
@@ -124,7 +124,7 @@ impl Memo {
         self.moves[number * 256 + usize::from(byte)] = behind as u16 + 1;
     }
 
-    // Whether a move was looked for in vain before, as far as that is noted; it is noted now.
+    // Whether a move was looked for in vain before, as far as that was kept; it is kept now.
     pub fn is_missed_again(&mut self, number: usize, byte: u8) -> bool
         ensures fronts { self.new.fronts ≡ self.old.fronts }
         ensures moves { self.new.moves ≡ self.old.moves }
@@ -140,7 +140,7 @@ impl Memo {
         }
     }
 
-    // Puts a list behind the others, and a row for it.
+    // Appends a list, and an empty row for it.
     fn push(&mut self, list: Vec<u32>) -> Result<(), AllocError>
         requires rows { HasRows self.old }
         ensures fronts { OnOk result (fronts_in self.new ≡ fronts_in self.old ++ list.items ∷ []) }
@@ -158,7 +158,7 @@ impl Memo {
         }
     }
 
-    // Adds a list, and gives its number. It gets room for its states alone.
+    // Adds a copy of a list, without unused capacity, and returns its number.
     pub fn add(&mut self, alloc: Global, states: &[u32]) -> Result<usize, AllocError>
         requires rows { HasRows self.old }
         requires few { length (fronts_in self.old) < most_fronts }
@@ -176,7 +176,7 @@ impl Memo {
         Ok(number)
     }
 
-    // Room to find lists by, and to note what is missed.
+    // Allocates the buckets and the entries for missed moves, if they aren't allocated yet.
     fn make_room(&mut self, alloc: Global) -> Result<(), AllocError>
         ensures fronts { self.new.fronts ≡ self.old.fronts }
         ensures moves { self.new.moves ≡ self.old.moves }
@@ -188,7 +188,7 @@ impl Memo {
         Ok(())
     }
 
-    // A list of this number is found by a remainder.
+    // Makes a bucket point to the list of this number.
     fn set_bucket(&mut self, bucket: usize, number: usize)
         requires { number < 65536 }
         ensures fronts { self.new.fronts ≡ self.old.fronts }
@@ -199,7 +199,7 @@ impl Memo {
         }
     }
 
-    // Notes that a list wasn't remembered, for want of room. After many such, all are forgotten.
+    // Notes that a list wasn't remembered, for lack of room. After many of these, all lists are forgotten.
     pub fn turn_away(&mut self)
         ensures { (g : Graph) (room : ℕ) → Remembers g room self.old → Remembers g room self.new }
     {

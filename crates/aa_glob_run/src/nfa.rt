@@ -18,7 +18,7 @@ use aa_glob_pairs::first_clash;
 use std::alloc::{AllocError, Global};
 use std::marker::Model;
 
-/// A finished automaton, of the states, ways and ends that were drawn. Contracts see its graph.
+/// A finished automaton, of the states, ways and ends that were added. Contracts see its graph.
 #[derive(Drop)]
 pub struct Nfa {
     tables: Tables,
@@ -40,7 +40,7 @@ impl Model for Nfa {
 }
 
 impl Nfa {
-    // The automaton of these tables, which are put in order.
+    // The automaton of these tables, which it sorts.
     pub(crate) fn of(tables: Tables) -> Nfa
         requires { AreSound tables }
         ensures { SameGraph (graph_of tables) result }
@@ -62,7 +62,7 @@ impl Nfa {
         self.tables.states.len()
     }
 
-    /// The tables of its graph, which are sound and in order, lent. It takes no memory.
+    /// The tables of its graph, sound and sorted, lent. It takes no memory.
     pub fn tables(&self) -> &Tables
         ensures graph { graph_of result.now ≡ self.now }
         ensures sound { AreSound result.now }
@@ -71,8 +71,8 @@ impl Nfa {
         &self.tables
     }
 
-    /// The least pattern that clashes with one of a smaller number: some text leads to ends of both, and their classes differ. `classes` has the
-    /// class of each pattern, by its number.
+    /// The least pattern that clashes with one of a smaller number, or `None`: some text leads to ends of both, and their classes differ. `classes`
+    /// has the class of each pattern, by its number.
     ///
     /// # Errors
     ///
@@ -85,10 +85,11 @@ impl Nfa {
         first_clash(alloc, &self.tables, classes)
     }
 
-    /// The patterns of which an end is reached behind a text, each once, in rising order.
+    /// The patterns whose ends a text reaches, each once, in rising order.
     ///
-    /// Steps are counted: one for each visit of a state at a place of the text, which are its bytes and its end. It ends at the first byte
-    /// behind which no state is reached. So the steps are as many as there are states that are reached at each of the places, all places together.
+    /// Steps are counted: one for each visit of a state at a place of the text, which are its bytes and its end. The run stops at the first byte
+    /// after which no state is reached. So the steps are as many as there are states that are reached at each of the places, all places together.
+    /// Visits that a remembered list stands for are counted, too.
     ///
     /// # Errors
     ///
@@ -109,17 +110,17 @@ impl Nfa {
         ends(alloc, &self.tables, text, &self.memo, steps)
     }
 
-    /// Remembers what follows at the places of a text, and tells whether all of it is remembered now: so this text is gone through quicker from now on,
-    /// and others as far as the same states live together. Contracts don't see it. It takes at most some 7 MB (docs/PERFORMANCE.md, "What is remembered").
-    /// Where there is no room, or no memory, no more is remembered.
+    /// Remembers which states are live at the places of a text, and returns whether all of this is remembered now: later questions about this text
+    /// are answered quicker, and those about other texts as far as the same states are live together. Contracts don't see it. It takes at most some
+    /// 7 MB (docs/PERFORMANCE.md, "What is remembered"). Where there is no room, or no memory, no more is remembered.
     pub fn remember(&mut self, alloc: Global, text: &[u8]) -> bool
         ensures { self.new ≡ self.old }
     {
-        // What can't be remembered is looked for when it is asked.
+        // What can't be remembered is found by a run when it is asked.
         recall(alloc, &self.tables, text, &mut self.memo).unwrap_or(false)
     }
 
-    /// Forgets what was remembered.
+    /// Forgets what was remembered, and frees its memory.
     pub fn forget(&mut self, alloc: Global)
         ensures { self.new ≡ self.old }
     {

@@ -1,4 +1,4 @@
-//! The patterns of which ends were reached.
+//! The patterns whose ends were reached.
 
 ghost use Rattle.std.specs.Prelude.{◌≡◌, ◌<◌, ◌≤◌, ◌↔◌, ℕ, length, All, AllPairs, Contains, IfOk, OnOk};
 ghost use Rattle.std.specs.List.Sorted.{IsNonDecreasing};
@@ -10,7 +10,7 @@ ghost use Rattle.aa_glob_nfa.specs.OfTables.{AreSound, AreSorted, graph_of};
 use aa_glob_nfa::Tables;
 use std::alloc::{AllocError, Global};
 
-/// The patterns of which states are ends, each once, in rising order.
+/// The patterns that end at these states, each once, in rising order.
 ///
 /// # Errors
 ///
@@ -27,7 +27,7 @@ pub fn patterns_of(alloc: Global, tables: &Tables, live: &[u32]) -> Result<Vec<u
     rising(alloc, &found)
 }
 
-// The patterns of which states are ends, for each state by itself.
+// The patterns that end at these states, state by state; a pattern may be there more than once.
 fn found_by(alloc: Global, tables: &Tables, live: &[u32]) -> Result<Vec<u32>, AllocError>
     requires sound { AreSound tables.now }
     requires sorted { AreSorted tables.now }
@@ -41,7 +41,7 @@ fn found_by(alloc: Global, tables: &Tables, live: &[u32]) -> Result<Vec<u32>, Al
     Ok(found)
 }
 
-// Puts the patterns of which a state is an end behind others.
+// Appends the patterns that end at a state.
 fn push_found(tables: &Tables, state: u32, found: &mut Vec<u32>) -> Result<(), AllocError>
     requires sound { AreSound tables.now }
     requires sorted { AreSorted tables.now }
@@ -54,7 +54,7 @@ fn push_found(tables: &Tables, state: u32, found: &mut Vec<u32>) -> Result<(), A
     Ok(())
 }
 
-// Numbers in their order, each once.
+// Sorted numbers, each once.
 fn rising(alloc: Global, numbers: &[u32]) -> Result<Vec<usize>, AllocError>
     requires { IsNonDecreasing numbers.now }
     ensures same { IfOk result (λ each. (p : ℕ) → Contains each.items p ↔ Contains numbers.now p) }
@@ -67,7 +67,7 @@ fn rising(alloc: Global, numbers: &[u32]) -> Result<Vec<usize>, AllocError>
     Ok(each)
 }
 
-// Puts a number behind those that were before it, if it is none of them.
+// Appends the number at an index, if it differs from the one before it.
 fn put_new(numbers: &[u32], at: usize, each: &mut Vec<usize>) -> Result<(), AllocError>
     requires { at < length numbers.now }
     ensures { OnOk result (each.new.items ≡ with_new numbers.now at each.old.items) }
@@ -78,7 +78,7 @@ fn put_new(numbers: &[u32], at: usize, each: &mut Vec<usize>) -> Result<(), Allo
     Ok(())
 }
 
-// Whether a number differs from the one before it, or is the first.
+// Whether the number at an index differs from the one before it, or is the first.
 fn is_new(numbers: &[u32], at: usize) -> bool
     requires { at < length numbers.now }
     ensures { result ≡ is_new numbers.now at }

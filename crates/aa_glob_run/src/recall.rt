@@ -11,14 +11,14 @@ use crate::memo::Memo;
 use aa_glob_nfa::{Steps, Tables, first, follow};
 use std::alloc::{AllocError, Global};
 
-// How many states a list has at most that is remembered behind a byte, so that all lists take no more than some 2 MB.
+// How many states a remembered list has at most, so that all lists take no more than some 2 MB.
 const LONGEST: usize = 64;
 
-// A text of so many bytes is worth learning the first time: what is learnt at one of its places comes again at others.
+// A text of so many bytes is worth remembering the first time: what is found at one of its places comes again at others.
 const LONG: usize = 1024;
 
 impl Memo {
-    // Sees to it that the list of the states that live before a text is there. Its number is 0.
+    // Adds the list of the states that are live before a text, if it isn't there. Its number is 0.
     pub fn begin(&mut self, alloc: Global, tables: &Tables) -> Result<(), AllocError>
         requires sound { AreSound tables.now }
         requires sorted { AreSorted tables.now }
@@ -33,7 +33,7 @@ impl Memo {
         Ok(())
     }
 
-    // The number of a list, which is added where it isn't found. The others keep theirs.
+    // The number of a list, which is added where it isn't found. The numbers of other lists don't change.
     fn place(&mut self, alloc: Global, states: &[u32]) -> Result<usize, AllocError>
         requires rows { HasRows self.old }
         requires few { length (fronts_in self.old) < most_fronts }
@@ -50,7 +50,7 @@ impl Memo {
         }
     }
 
-    // Remembers that a list follows behind a byte, and gives its number.
+    // Remembers that a list follows by a byte, and returns its number.
     fn remember(
         &mut self,
         alloc: Global,
@@ -70,7 +70,7 @@ impl Memo {
         Ok(to)
     }
 
-    // Looks for the list that follows behind a byte, remembers it, and gives its number. None where it is too long, or where there is no room for more.
+    // Finds the list that follows by a byte, remembers it, and returns its number. `None` where it is too long, or where there is no room for more.
     fn learn(
         &mut self,
         alloc: Global,
@@ -96,8 +96,8 @@ impl Memo {
         self.remember(alloc, number, byte, &states).map(Some)
     }
 
-    // Whether a move of a text is looked for, where so many of it were. The first is where it was missed before or the text is long, so a short text that
-    // is asked once adds nothing.
+    // Whether a move of a text is to be found, after so many others of this text were. The first one is where it was missed before or the text is
+    // long, so that a short text that is asked once adds nothing.
     fn is_worth_learning(&mut self, text: &[u8], new: usize, number: usize, byte: u8) -> bool
         ensures fronts { self.new.fronts ≡ self.old.fronts }
         ensures moves { self.new.moves ≡ self.old.moves }
@@ -111,14 +111,14 @@ impl Memo {
     }
 }
 
-// How many moves of a text are looked for at most, each time it is remembered: some, and more of a long one.
+// How many moves of a text are found at most, each time it is remembered: 32, and more for a long one.
 fn most_new(text: &[u8]) -> usize
     ensures { result ≡ most_new text.now }
 {
     32 + text.len() / 128
 }
 
-// Remembers what follows at the places of a text, as far as it is known already and some moves more. Tells whether all of it is known now.
+// Remembers what follows at the places of a text, as far as it is known already and for some moves more. Returns whether all of it is known now.
 pub fn recall(
     alloc: Global,
     tables: &Tables,
@@ -153,14 +153,15 @@ pub fn recall(
     Ok(true)
 }
 
-// A place of a text to which a run has come, and the number of the list of the states that live there.
+// A place of a text to which a run has come, and the number of the list of the states that are live there.
 #[derive(Clone, Copy)]
 pub struct Far {
     pub place: usize,
     pub number: usize,
 }
 
-// Goes through a text by what is remembered, as far as it is. Each place before the one that is come to is counted. None where nothing is remembered.
+// Follows a text by what is remembered, as far as that goes. The visits at each place before the one where it stops are counted. `None` where
+// nothing is remembered.
 pub fn known_far(tables: &Tables, text: &[u8], memo: &Memo, steps: &mut Steps) -> Option<Far>
     requires memo { Remembers (graph_of tables.now) (length tables.now.states) memo.now }
     ensures { IfSome result (λ far. (far.place ≤ length text.now)

@@ -1,4 +1,4 @@
--- The bits of a number tell it.
+-- The bits of a number determine it.
 use Rattle.std.proofs.Common.{◌≡◌, ℕ, zero, suc, ◌+◌, ◌*◌, ◌/◌, ◌%◌, ◌^◌, ◌<◌, ◌==◌, ◌∙◌, length, refl, ap, ap₂, arith}
 use Rattle.std.proofs.lemmas.Grind.{pow_more}
 use Rattle.aa_glob_syntax.specs.Bits.{bit, bits_of, number_of}
@@ -8,7 +8,7 @@ pub length-bits : (len bits : ℕ) → length (bits_of len bits) ≡ len
 length-bits zero bits = refl
 length-bits (suc len) bits = ap suc (length-bits len (bits / 2))
 
--- a number below a power of two is told by its bits
+-- a number less than a power of two is determined by its bits
 few-half : (len bits : ℕ) → bits < 2 ^ (len + 1) → bits / 2 < 2 ^ len
 few-half len bits few = let twice = pow_more 2 len in omega (arith, few, twice)
 

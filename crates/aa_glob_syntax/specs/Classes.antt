@@ -9,7 +9,7 @@ use Rattle.aa_glob_syntax.specs.declared.symbol.Symbol.{Symbol}
 use Rattle.aa_glob_syntax.specs.declared.pattern_error.PatternError.{PatternError}
 use Rattle.aa_glob_syntax.specs.declared.pattern_error.PatternError.TheVariants.{UnclosedClass, EmptyClass, BadRange, BadEscape}
 
--- the bytes from that of one symbol to that of another
+-- the bytes from the byte of one symbol to that of another
 abbrev pub range : Symbol → Symbol → ByteRange
 range first end = record { first = byte_of first; last = byte_of end }
 
@@ -25,8 +25,8 @@ abbrev pub is_range : List Symbol → Bool
 is_range (link ∷ end ∷ ls) = is_plain dash link && not (is_plain closing_bracket end)
 is_range ls = false
 
--- The members of a class: those before, and those in the text up to the first `]` without a backslash. One is a range or a byte
--- alone. The last clause is for a text too short for a range.
+-- The members of a class: those before, and those in the text up to the first `]` without a backslash. A member is a range or a single byte. The
+-- last clause is for a text too short for a range.
 abbrev pub members : List ByteRange → List Symbol → Result (List ByteRange) PatternError
 members before [] = Err UnclosedClass
 members before (first ∷ link ∷ end ∷ ls) =
@@ -45,16 +45,16 @@ set_of negated (Err error) = Err error
 set_of negated (Ok []) = Err EmptyClass
 set_of negated (Ok (member ∷ more)) = Ok (Class negated (member ∷ more))
 
--- The set of a class, from what follows its `[`, or the first fault in it. A `^` there negates it.
+-- The set of a class, from the text after its `[`, or the first fault in it. A `^` there negates it.
 abbrev pub class : List Symbol → Result ByteSet PatternError
 class [] = Err UnclosedClass
 class (l ∷ ls) = if is_plain caret l then set_of true (members [] ls) else set_of false (members [] (l ∷ ls))
 
--- the set that was read; of a refused class another one, which no contract speaks of
+-- the set that was read; an arbitrary one for a refused class, of which no contract speaks
 abbrev pub set_read : Result ByteSet PatternError → ByteSet
 set_read (Ok set) = set
 set_read (Err error) = Inside
 
--- the set of a class, from its text behind the `[`
+-- the set of a class, from the text after its `[`
 abbrev pub set_in : List ℕ → ByteSet
 set_in text = set_read (class (symbols text))

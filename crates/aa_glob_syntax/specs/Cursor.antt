@@ -1,4 +1,4 @@
--- The cursor over a pattern's text: the element that each of its answers stands for, and what is left to read.
+-- The cursor over a pattern's text: the element that each of its answers means, and what is left to read.
 use Rattle.std.specs.Prelude.{◌≡◌, ℕ, ◌+◌, ◌*◌, List, [], ◌∷◌, length, Option, None, Some}
 use Rattle.aa_bytes.specs.declared.byte_set.ByteSet.{ByteSet}
 use Rattle.aa_bytes.specs.declared.byte_set.ByteSet.TheVariants.{Inside}
@@ -14,15 +14,15 @@ use Rattle.aa_glob_syntax.specs.declared.element.Element.TheVariants as found
 use Rattle.aa_glob_syntax.specs.declared.element.Next.{Next}
 use Rattle.aa_glob_syntax.specs.declared.pattern_error.PatternError.{PatternError}
 
--- a class's text, from behind its `[` up to and with its `]`
+-- a class's text, from after its `[` up to its `]`, which is included
 abbrev pub class_text : Class → List ℕ
 class_text class = class.text.now
 
--- the set of a class as it stands in the text, which its text tells
+-- the set of a class as it is written in the text, which its text determines
 abbrev pub class_set : Class → ByteSet
 class_set class = set_in (class_text class)
 
--- the element that is meant
+-- the element that a cursor's element means
 abbrev pub meaning : Found → Element
 meaning (found.Byte b) = Single (Byte b)
 meaning found.Inside = Single (Set Inside)
@@ -33,14 +33,14 @@ meaning found.Open = Open
 meaning found.Comma = Comma
 meaning found.Close = Close
 
--- the context behind an element
+-- the context after an element
 abbrev pub context_behind : Found → Context
 context_behind (found.Byte b) = context_after b
 context_behind found.Star = AfterStar
 context_behind found.DoubleStar = AfterStar
 context_behind element = Elsewhere
 
--- the elements of a text, told by what comes next in it
+-- the elements of a text, by what comes next in it
 abbrev pub elements_from : Option Next → List Element
 elements_from None = []
 elements_from (Some next) = meaning next.element ∷ elements next.context (symbols next.rest.now)
@@ -49,7 +49,7 @@ elements_from (Some next) = meaning next.element ∷ elements next.context (symb
 abbrev pub BeginWithFault : PatternError → List Element → Type 0
 BeginWithFault error es = (rest : List Element) × (es ≡ Fault error ∷ rest)
 
--- How much is left to read. A star behind a slash may be met twice: for the byte that its run has at least, and for the run.
+-- How much is left to read. A star after a slash may be met twice: for the one byte that its run needs, and for the run.
 abbrev pub left : Context → List ℕ → ℕ
 left AfterSlash text = 2 * length text + 1
 left context text = 2 * length text

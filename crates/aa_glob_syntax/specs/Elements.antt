@@ -26,7 +26,7 @@ pub data Element : Type 0 where
 abbrev pub context_after : ℕ → Context
 context_after b = if b == slash then AfterSlash else Elsewhere
 
--- a text of symbols begins with this byte, and no backslash stands before it
+-- a text of symbols begins with this byte, without a backslash
 abbrev pub begins_plain : ℕ → List Symbol → Bool
 begins_plain b [] = false
 begins_plain b (l ∷ ls) = is_plain b l
@@ -45,13 +45,13 @@ is_segment_end (l ∷ ls) = is_plain slash l
 abbrev pub stars : List Symbol → Element
 stars ls = Single (if begins_plain star ls then DoubleStar else Star)
 
--- A run that is a whole segment of its own stands for at least one byte, the first of which isn't `/`: no file's name is empty. The
--- slash before it may have a backslash, the one behind it not.
+-- A run that is a whole segment of its own matches at least one byte, the first of which isn't `/`: no file's name is empty. The slash before it may
+-- have a backslash, the one after it may not.
 abbrev pub is_whole_segment : Context → List Symbol → Bool
 is_whole_segment AfterSlash ls = is_segment_end (behind_stars ls)
 is_whole_segment _ ls = false
 
--- The first star of a run tells what the run reads as, and the others add nothing.
+-- The first star of a run determines what the run reads as, and the others add nothing.
 abbrev pub run : Context → List Symbol → List Element
 run AfterStar ls = []
 run context ls = if is_whole_segment context ls then Single (Set Inside) ∷ stars ls ∷ [] else stars ls ∷ []
@@ -63,7 +63,7 @@ class_element (Err error) = Fault error
 
 -- `[` begins a class, `{` a group; `?` is one byte within a segment; a comma and braces are those of groups.
 abbrev mutual
-  -- the elements of a text that stands in a context
+  -- the elements of a text with this context
   pub elements : Context → List Symbol → List Element
   elements context [] = []
   elements context (Broken ∷ ls) = Fault BadEscape ∷ []
@@ -77,7 +77,7 @@ abbrev mutual
       if b == closing_brace then Close ∷ elements Elsewhere ls else
       Single (Byte b) ∷ elements (context_after b) ls
 
-  -- the elements behind the class within which a text begins, behind the first `]` without a backslash
+  -- the elements after the class within which a text begins, that is, after the first `]` without a backslash
   pub behind_class : List Symbol → List Element
   behind_class [] = []
   behind_class (l ∷ ls) = if is_plain closing_bracket l then elements Elsewhere ls else behind_class ls

@@ -8,7 +8,7 @@ is_exact End = true
 is_exact (Next (Byte b) items) = is_exact items
 is_exact (Next item items) = false
 
--- how many such bytes stand before the first other item
+-- how many such bytes come before the first other item
 abbrev pub literal_prefix : Pattern → ℕ
 literal_prefix End = 0
 literal_prefix (Next (Byte b) items) = 1 + literal_prefix items

@@ -1,5 +1,5 @@
--- The fault of a pattern's text, told from left to right by the groups that are open. That this is what `reading` tells is what
--- `check_pattern` ensures.
+-- The fault of a pattern's text, found from left to right by the groups that are open. That this is what `reading` says is what `check_pattern`
+-- ensures.
 use Rattle.std.specs.Prelude.{ℕ, Bool, true, false, ◌==◌, if◌then◌else◌, List, [], ◌∷◌, length, Option, None, Some}
 use Rattle.aa_glob_syntax.specs.Elements.{Element, Single, Open, Comma, Close, Fault, elements}
 use Rattle.aa_glob_syntax.specs.Items.{Byte}
@@ -10,7 +10,7 @@ use Rattle.aa_glob_syntax.specs.declared.context.Context.TheVariants.{Elsewhere}
 use Rattle.aa_glob_syntax.specs.declared.pattern_error.PatternError.{PatternError}
 use Rattle.aa_glob_syntax.specs.declared.pattern_error.PatternError.TheVariants.{FewAlternatives, StrayClose, TooDeep, UnclosedGroup}
 
--- Of each open group it is told whether a comma of it has come. A comma is one of the innermost.
+-- Of each open group it is known whether it had a comma. A comma belongs to the innermost.
 abbrev pub with_comma : List Bool → List Bool
 with_comma groups = with_innermost (λ parted. true) groups
 
@@ -24,7 +24,7 @@ abbrev pub fault_at_close : List Bool → Option PatternError → Option Pattern
 fault_at_close [] behind = Some StrayClose
 fault_at_close (parted ∷ groups) behind = if parted then behind else Some FewAlternatives
 
--- the first fault of elements that stand in these groups, if there is one
+-- the first fault of elements within these open groups, if there is one
 abbrev pub first_fault : List Element → List Bool → Option PatternError
 first_fault [] groups = fault_at_end groups
 first_fault (Single item ∷ es) groups = first_fault es groups

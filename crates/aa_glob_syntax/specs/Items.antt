@@ -3,8 +3,8 @@ use Rattle.std.specs.Prelude.{ℕ}
 use Rattle.aa_bytes.specs.declared.byte_set.ByteSet.{ByteSet}
 
 mutual
-  -- An item: a byte that stands for itself, one byte of a set, any bytes within a segment, any bytes, or a group, which
-  -- has two alternatives and maybe others. No item of a text that reads as a pattern stands for zero.
+  -- An item: a byte that stands for itself, one byte of a set, any bytes within a segment, any bytes, or a group, which has two or more
+  -- alternatives. No item of a text that reads as a pattern matches zero.
   pub data Item : Type 0 where
     Byte : (byte : ℕ) → Item
     Set : (set : ByteSet) → Item

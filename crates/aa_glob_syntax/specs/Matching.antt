@@ -11,7 +11,7 @@ abbrev pub IsInside : ℕ → Type 0
 IsInside b = (b ≢ 0) × (b ≢ slash)
 
 abbrev mutual
-  -- a text is of an item
+  -- an item matches a text
   pub IsOf : Item → List ℕ → Type 0
   IsOf (Byte b) u = u ≡ b ∷ []
   IsOf (Set set) u = (b : ℕ) × (u ≡ b ∷ []) × (has set b ≡ true)
@@ -19,8 +19,8 @@ abbrev mutual
   IsOf DoubleStar u = All (λ b. b ≢ 0) u
   IsOf (Group first second others) u = Matches first u ⊎ (Matches second u ⊎ SomeMatches others u)
 
-  -- The empty pattern matches the empty text alone. Another one matches a text that is a text of its first item and then one
-  -- that matches the other items.
+  -- The empty pattern matches the empty text alone. Any other pattern matches a text that consists of a text which its first item matches and one
+  -- which the remaining items match.
   pub Matches : Pattern → List ℕ → Type 0
   Matches End s = s ≡ []
   Matches (Next item items) s = (u v : List ℕ) × (s ≡ u ++ v) × IsOf item u × Matches items v
@@ -30,9 +30,9 @@ abbrev mutual
   SomeMatches NoMore s = ⊥
   SomeMatches (More pattern patterns) s = Matches pattern s ⊎ SomeMatches patterns s
 
--- The same as a test, which contracts name: `matching_is_by_splits` is the law that the two agree.
+-- The relation as a test, which contracts name: `matching_is_by_splits` is the law that the two agree.
 
--- some way to split a text in two passes the test
+-- some way to split a text into two passes the test
 abbrev pub some_split : (List ℕ → List ℕ → Bool) → List ℕ → Bool
 some_split test [] = test [] []
 some_split test (b ∷ bs) = test [] (b ∷ bs) || some_split (λ u v. test (b ∷ u) v) bs
@@ -43,7 +43,7 @@ is_one_of set [] = false
 is_one_of set (b ∷ bs) = set b && bytes_eq bs []
 
 abbrev mutual
-  -- a text is of an item
+  -- an item matches a text
   pub is_of : Item → List ℕ → Bool
   is_of (Byte b) u = bytes_eq u (b ∷ [])
   is_of (Set set) u = is_one_of (has set) u

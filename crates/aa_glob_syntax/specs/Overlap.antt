@@ -10,7 +10,7 @@ use Rattle.aa_glob_syntax.specs.Reading.{items_of}
 abbrev pub Overlap : List ℕ → List ℕ → Type 0
 Overlap one other = (path : List ℕ) × All (λ b. b < 2 ^ 8) path × (matches (items_of one) path ≡ true) × (matches (items_of other) path ≡ true)
 
--- A pattern by its place clashes with an earlier one: they overlap, and their classes differ. Each pattern has a class by its place.
+-- A pattern at a place clashes with an earlier one: they overlap, and their classes differ. Each pattern has a class, by its place.
 pub record ClashesAmong (patterns : List (List ℕ)) (classes : List ℕ) (place : ℕ) : Type 0 where
   pub before : ℕ
   pub earlier : before < place

@@ -1,4 +1,4 @@
--- The refusals of a pattern's text: each one's number, name and words (docs/policy.md).
+-- The refusals of a pattern's text: the number, name and words of each (docs/policy.md).
 use Rattle.std.specs.Prelude.{ℕ, List, codes}
 use Rattle.aa_glob_syntax.specs.declared.pattern_error.PatternError.{PatternError}
 use Rattle.aa_glob_syntax.specs.declared.pattern_error.PatternError.TheVariants.{NotAbsolute, UnclosedClass, EmptyClass, BadRange, UnclosedGroup, StrayClose, FewAlternatives, BadEscape, TooLong, TooDeep, ZeroByte, Memory}
@@ -24,7 +24,7 @@ number_of r = (described r).0
 abbrev pub name_of : PatternError → List ℕ
 name_of r = (described r).1
 
--- what is wrong, in words for people
+-- what is wrong, in words for users
 abbrev pub words_of : PatternError → List ℕ
 words_of NotAbsolute = codes "the pattern doesn't begin with a slash"
 words_of UnclosedClass = codes "a class of the pattern isn't closed"

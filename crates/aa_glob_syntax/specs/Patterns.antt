@@ -3,7 +3,7 @@ use Rattle.std.specs.Prelude.{◌≡◌, ◌↔◌, ℕ, true, Contains, List, S
 use Rattle.aa_glob_syntax.specs.Matching.{matches}
 use Rattle.aa_glob_syntax.specs.Reading.{items_of}
 
--- a pattern by its place among others
+-- the pattern at a place of a list
 abbrev pub IsPatternAt : List (List ℕ) → ℕ → List ℕ → Type 0
 IsPatternAt patterns place pattern = slice_get patterns place ≡ Some pattern
 

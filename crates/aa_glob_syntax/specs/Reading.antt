@@ -11,12 +11,12 @@ use Rattle.aa_glob_syntax.specs.declared.pattern_error.PatternError.TheVariants.
 use Rattle.aa_glob_syntax.specs.declared.context.Context.TheVariants.{Elsewhere}
 
 mutual
-  -- A text, or what is left of one, cut at the commas of the group that it stands in: the pattern before the first of them,
-  -- the others, and how the text ends.
+  -- A text, or what is left of one, cut at the commas of the group that it is in: the pattern before the first of them, the others, and how the text
+  -- ends.
   pub data Pieces : Type 0 where
     Cut : (first : Pattern) → (others : Patterns) → (ending : Ending) → Pieces
 
-  -- A text ends by itself, or a brace closes the group that it stands in and something follows, or it is at fault.
+  -- A text ends by itself, or a brace closes the group that it is in and something follows, or it has a fault.
   pub data Ending : Type 0 where
     Ended : Ending
     Closed : (after : Pieces) → Ending
@@ -54,11 +54,11 @@ group_of first (More second others) (Closed after) = onto (Group first second ot
 abbrev pub group : Pieces → Pieces
 group p = group_of (first_of p) (others_of p) (ending_of p)
 
--- how deep groups may stand in one another
+-- how deep groups may be nested
 abbrev pub deepest : ℕ
 deepest = 16
 
--- The pieces of a text that stands in so many groups. A comma outside groups stands for itself.
+-- The pieces of a text within so many groups. A comma outside groups stands for itself.
 abbrev pub pieces : ℕ → List Element → Pieces
 pieces depth [] = Cut End NoMore Ended
 pieces depth (Single item ∷ es) = onto item (pieces depth es)
@@ -88,7 +88,7 @@ begins_with_slash text = begins_with_byte slash text
 abbrev pub has_zero : List ℕ → Bool
 has_zero text = has_byte 0 text
 
--- a text has none of the faults that are told before anything is read
+-- a text has none of the faults that are checked before anything is read
 abbrev pub HasNoFirstFault : List ℕ → Type 0
 HasNoFirstFault text = (length text ≤ longest) × (has_zero text ≡ false) × (begins_with_slash text ≡ true)
 
@@ -101,7 +101,7 @@ reading text =
     if not (begins_with_slash text) then Err NotAbsolute else
     whole (pieces 0 (elements Elsewhere (symbols text)))
 
--- the items that were read; of a refused text none
+-- the items that were read; none for a refused text
 abbrev pub items_read : Result Pattern PatternError → Pattern
 items_read (Ok items) = items
 items_read (Err error) = End

@@ -1,4 +1,4 @@
-//! Bits, one on the other.
+//! A stack of bits.
 
 ghost use Rattle.std.specs.Prelude.{◌≡◌, ◌<◌, ◌+◌, ◌∷◌, [], Bool, false, true, length};
 ghost use Rattle.aa_glob_syntax.specs.Bits.{bit};
@@ -6,7 +6,7 @@ ghost use Rattle.aa_glob_syntax.specs.OpenGroups.{outer, with_innermost};
 
 use std::marker::Model;
 
-/// At most 16 bits, one on the other, as for groups that are open within each other. Contracts see a list, the topmost bit first.
+/// A stack of at most 16 bits, one for each group that is open within the others. Contracts see a list, the topmost bit first.
 #[derive(Clone, Copy)]
 pub struct BitStack {
     len: u32,
@@ -31,14 +31,14 @@ impl Model for BitStack {
 }
 
 impl BitStack {
-    /// No bit.
+    /// The empty stack.
     pub fn none() -> BitStack
         ensures { result ≡ [] }
     {
         BitStack { len: 0, bits: 0 }
     }
 
-    /// How many bits there are.
+    /// How many bits are on the stack.
     pub fn len(self) -> u32
         ensures { result ≡ length self }
     {
@@ -53,7 +53,7 @@ impl BitStack {
         self.bits % 2 == 1
     }
 
-    /// One bit more, on top.
+    /// The stack with one more bit on top.
     pub fn pushed(self, top: bool) -> BitStack
         requires { length self < 16 }
         ensures { result ≡ top ∷ self }
@@ -64,7 +64,7 @@ impl BitStack {
         }
     }
 
-    /// All bits but the topmost.
+    /// The stack without its topmost bit.
     pub fn popped(self) -> BitStack
         requires { 0 < length self }
         ensures { result ≡ outer self }
@@ -75,7 +75,7 @@ impl BitStack {
         }
     }
 
-    /// The same bits, of which the topmost is set.
+    /// The stack with its topmost bit set.
     pub fn with_top_set(self) -> BitStack
         requires { 0 < length self }
         ensures { result ≡ with_innermost (λ _. true) self }

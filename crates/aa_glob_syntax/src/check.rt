@@ -14,19 +14,19 @@ use crate::groups::Groups;
 use crate::pattern_error::PatternError;
 use aa_bytes::{begins_with_byte, has_byte};
 
-/// How many bytes the text of a pattern may have.
+/// How many bytes the text of a pattern may have at most.
 pub const LONGEST_PATTERN: usize = 4_096;
 
-/// What is known of a pattern once its text was checked.
+/// What is known of a pattern once its text is checked.
 #[derive(Clone, Copy)]
 pub struct Facts {
     /// Whether all items are bytes that stand for themselves, so that one text alone matches the pattern.
     pub exact: bool,
-    /// How many items stand before the first that isn't a byte for itself.
+    /// How many items come before the first that isn't a byte for itself.
     pub prefix: usize,
 }
 
-/// Checks whether a text, of any bytes, reads as a pattern. It takes no memory.
+/// Checks whether a text, of any bytes, reads as a pattern. It takes no memory; the text is read once.
 ///
 /// # Errors
 ///
@@ -45,8 +45,8 @@ pub fn check_pattern(text: &[u8]) -> Result<Facts, PatternError>
     }
 }
 
-// Refuses a text with one of the faults that are told before anything is read: `TooLong`, `ZeroByte` and `NotAbsolute`. It takes no
-// memory.
+// Refuses a text with one of the faults that are checked before anything is read: `TooLong`, `ZeroByte` and `NotAbsolute`, in this order. It takes
+// no memory.
 fn check_text(text: &[u8]) -> Result<(), PatternError>
     ensures fine { OnOk result (HasNoFirstFault text.now) }
     ensures refused { IfErr result (λ error. reading text.now ≡ Err error) }
@@ -64,7 +64,7 @@ fn check_text(text: &[u8]) -> Result<(), PatternError>
     Ok(())
 }
 
-// Goes over the elements of a text.
+// Checks the elements of a text, from the first to the last.
 fn check_elements(text: &[u8]) -> Result<Facts, PatternError>
     requires { length text.now ≤ longest }
     ensures whole { IfOk result (λ facts. first_fault (spelled text.now) [] ≡ None) }
@@ -90,7 +90,7 @@ fn check_elements(text: &[u8]) -> Result<Facts, PatternError>
     Ok(facts)
 }
 
-// The facts behind one element more.
+// The facts after one more element.
 fn facts_behind(facts: Facts, element: Element) -> Facts
     requires { facts.prefix ≤ 2 * longest }
     ensures exact { result.exact ≡ (facts.exact && is_byte (meaning element.entry)) }

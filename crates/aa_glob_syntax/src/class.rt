@@ -1,4 +1,4 @@
-//! Classes, as `[a-c]` and `[^/]`, as they stand in a pattern's text.
+//! Classes, as `[a-c]` and `[^/]`, within a pattern's text.
 
 ghost use Rattle.std.specs.Prelude.{◌≡◌, ◌≢◌, ◌<◌, length, true, Ok, Err, IfOk, IfErr, is_ok};
 ghost use Rattle.aa_bytes.specs.ByteSets.{has};
@@ -13,7 +13,7 @@ use crate::pattern_error::PatternError;
 use aa_bytes::{ByteSet, Sequence};
 use std::alloc::{AllocError, Global};
 
-/// A class as it stands in a pattern's text, which is no copy of it.
+/// A class within a pattern's text. It borrows the text and doesn't copy it.
 #[derive(Clone, Copy)]
 pub struct Class<'a> {
     text: &'a [u8],
@@ -23,7 +23,11 @@ pub struct Class<'a> {
 impl<'a> Class<'a> {
     ghost use Rattle.aa_glob_syntax.specs.Cursor.{class_set};
 
-    /// Reads a class behind its `[`: the class, and what follows its `]`.
+    /// Reads a class from the text after its `[`: returns the class, and what follows its `]`. It takes no memory.
+    ///
+    /// # Errors
+    ///
+    /// `BadEscape`, `BadRange`, `EmptyClass` or `UnclosedClass`, whichever is met first.
     pub fn read(text: &'a [u8]) -> Result<(Class<'a>, &'a [u8]), PatternError>
         ensures class { IfOk result (λ read. class (symbols text.now) ≡ Ok (class_set read.0)) }
         ensures behind { IfOk result (λ read. behind_class (symbols text.now) ≡ elements Elsewhere (symbols read.1.now)) }
@@ -37,7 +41,7 @@ impl<'a> Class<'a> {
         Ok((Class { text }, rest))
     }
 
-    /// Whether the byte is in the set of the class. It takes no memory, and reads the class's text again.
+    /// Whether the byte is in the set of the class. It takes no memory; `O(n)` in the length of the class, whose text is read again.
     pub fn has(self, byte: u8) -> bool
         ensures { result ≡ has (class_set self.entry) byte }
     {

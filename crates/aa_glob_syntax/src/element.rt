@@ -1,4 +1,4 @@
-//! The elements of a pattern's text, read one after the other without memory.
+//! The elements of a pattern's text, read one after the other. It takes no memory.
 
 ghost use Rattle.std.specs.Prelude.{◌≡◌, ◌≢◌, ◌∷◌, ◌<◌, ◌≤◌, length, IfOk, IfErr, IfSome};
 ghost use Rattle.aa_bytes.specs.Bytes.{opening_bracket, star};
@@ -20,13 +20,13 @@ use crate::symbol::{Symbol, first_symbol};
 pub enum Element<'a> {
     /// A byte that stands for itself.
     Byte(u8),
-    /// One byte within a segment.
+    /// `?`: one byte within a segment.
     Inside,
     /// One byte of a class.
     Class(Class<'a>),
-    /// Any bytes within a segment.
+    /// `*`: any bytes within a segment.
     Star,
-    /// Any bytes.
+    /// `**`: any bytes.
     DoubleStar,
     /// The brace that begins a group.
     Open,
@@ -36,20 +36,20 @@ pub enum Element<'a> {
     Close,
 }
 
-/// An element, and what is behind it.
+/// An element, and what follows it.
 #[derive(Clone, Copy)]
 pub struct Next<'a> {
     /// The element.
     pub element: Element<'a>,
-    /// The context in which the rest stands.
+    /// The context of the rest.
     pub context: Context,
-    /// What is left to read. It begins with the same star still, where a run of stars that is a whole segment has given the byte that
-    /// it has at least.
+    /// What is left to read. It begins with the same star again where a run of stars is a whole segment: such a run needs one byte at least, and
+    /// that byte was returned as an element of its own.
     pub rest: &'a [u8],
 }
 
-/// Reads the next element of a text that stands in a context; at its end there is none. It takes no memory. Whether braces and commas
-/// are those of groups is the caller's to tell.
+/// Reads the next element of a text whose first symbol has this context; returns `None` at the text's end. It takes no memory. Braces and commas are
+/// returned as they are: which groups they belong to is for the caller to find.
 ///
 /// # Errors
 ///
@@ -67,7 +67,7 @@ pub fn next_element<'a>(context: Context, text: &'a [u8]) -> Result<Option<Next<
     }
 }
 
-// The same where no run of stars goes on.
+// Reads the next element where no run of stars continues.
 fn next_outside<'a>(context: Context, text: &'a [u8]) -> Result<Option<Next<'a>>, PatternError>
     requires { context ≢ AfterStar }
     ensures ok { IfOk result (λ next. elements context (symbols text.now) ≡ elements_from next) }
@@ -85,7 +85,7 @@ fn next_outside<'a>(context: Context, text: &'a [u8]) -> Result<Option<Next<'a>>
     }
 }
 
-// A byte that stands for itself, and what is behind it.
+// A byte that stands for itself, and what follows it.
 fn next_byte<'a>(byte: u8, rest: &'a [u8]) -> Next<'a>
     ensures element { result.element ≡ Element.Byte byte }
     ensures context { result.context ≡ context_after byte }
@@ -98,7 +98,7 @@ fn next_byte<'a>(byte: u8, rest: &'a [u8]) -> Next<'a>
     }
 }
 
-// The run of stars with which the text begins, where none goes on; behind its first star the rest is left.
+// Reads a run of stars with which the text begins. What is left begins after the run's first star, or with it where the run is a whole segment.
 fn next_star<'a>(context: Context, text: &'a [u8], rest: &'a [u8]) -> Next<'a>
     requires begins { symbols text.now ≡ Plain star ∷ symbols rest.now }
     requires shorter { length rest.now < length text.now }
@@ -121,7 +121,7 @@ fn next_star<'a>(context: Context, text: &'a [u8], rest: &'a [u8]) -> Next<'a>
     }
 }
 
-// What a run of stars reads as, from what follows its first.
+// What a run of stars reads as, by what follows its first star: `**` is two stars or more.
 fn run_element<'a>(rest: &'a [u8]) -> Element<'a>
     ensures meaning { meaning result ≡ stars (symbols rest.now) }
     ensures context { context_behind result ≡ AfterStar }
@@ -133,7 +133,7 @@ fn run_element<'a>(rest: &'a [u8]) -> Element<'a>
     }
 }
 
-// The element that begins with a byte without a backslash, which is no star and stands before the rest.
+// The element that begins with this byte, which has no backslash and is no star; `rest` is what follows the byte.
 fn next_plain<'a>(byte: u8, rest: &'a [u8]) -> Result<Next<'a>, PatternError>
     requires { byte ≢ star }
     ensures ok { IfOk result (λ next. (context : Context) → elements context (Plain byte ∷ symbols rest.now) ≡ elements_from (Some next)) }
@@ -157,7 +157,7 @@ fn next_plain<'a>(byte: u8, rest: &'a [u8]) -> Result<Next<'a>, PatternError>
     })
 }
 
-// A class behind its `[`.
+// Reads a class from the text after its `[`.
 fn next_class<'a>(text: &'a [u8]) -> Result<Next<'a>, PatternError>
     ensures ok { IfOk result (λ next. (context : Context)
         → elements context (Plain opening_bracket ∷ symbols text.now) ≡ elements_from (Some next)) }

@@ -1,13 +1,13 @@
-//! The groups that are open at a place of a pattern's text.
+//! The groups that are open at a place in a pattern's text.
 
 use crate::bits::BitStack;
 use crate::element::Element;
 use crate::pattern_error::PatternError;
 
-// How deep groups may stand in one another.
+// How deep groups may be nested.
 const DEEPEST: u32 = 16;
 
-/// The open groups, the innermost on top: whether a comma of each has come.
+/// The open groups as a stack, the innermost on top: for each whether it had a comma yet.
 #[derive(Clone, Copy)]
 pub struct Groups {
     commas: BitStack,
@@ -30,7 +30,12 @@ impl Groups {
         }
     }
 
-    /// The groups behind an element that stands in these, or its fault.
+    /// The groups that are open after an element, or the element's fault. It takes no memory.
+    ///
+    /// # Errors
+    ///
+    /// `TooDeep` for a brace that opens a group within 16 open ones, `StrayClose` for one that closes none, and `FewAlternatives` for one that
+    /// closes a group without a comma.
     pub fn behind(self, element: Element) -> Result<Groups, PatternError>
         ensures ok { IfOk result
             (λ groups. (es : List Spelled) → first_fault (meaning element.entry ∷ es) self.commas ≡ first_fault es groups.commas) }
@@ -46,7 +51,11 @@ impl Groups {
         }
     }
 
-    /// Refuses groups that a text's end leaves open.
+    /// Refuses groups that are still open at a text's end.
+    ///
+    /// # Errors
+    ///
+    /// `UnclosedGroup`.
     pub fn end(self) -> Result<(), PatternError>
         ensures ok { IfOk result (λ _. fault_at_end self.commas ≡ None) }
         ensures refused { IfErr result (λ error. fault_at_end self.commas ≡ Some error) }
@@ -58,7 +67,7 @@ impl Groups {
         Ok(())
     }
 
-    // The groups behind a brace that begins one.
+    // The groups after a brace that opens one.
     fn opened(self) -> Result<Groups, PatternError>
         ensures ok { IfOk result
             (λ groups. (es : List Spelled) → first_fault (Open ∷ es) self.commas ≡ first_fault es groups.commas) }
@@ -73,7 +82,7 @@ impl Groups {
         })
     }
 
-    // The groups behind a comma.
+    // The groups after a comma.
     fn with_comma(self) -> Groups
         ensures { result.commas ≡ with_comma self.commas }
     {
@@ -85,7 +94,7 @@ impl Groups {
         }
     }
 
-    // The groups behind a brace that closes one.
+    // The groups after a brace that closes one.
     fn closed(self) -> Result<Groups, PatternError>
         ensures ok { IfOk result (λ groups. self.commas ≡ true ∷ groups.commas) }
         ensures refused { IfErr result (λ error. (behind : Option Refusal) → fault_at_close self.commas behind ≡ Some error) }

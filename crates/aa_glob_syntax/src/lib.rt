@@ -1,4 +1,5 @@
-//! The language of AppArmor's path patterns: what a pattern's text spells, element by element.
+//! The language of AppArmor's path patterns: the elements of a pattern's text, read one after the other; which texts are refused as patterns, and by
+//! which fault. No call here takes memory but `Class::set` and `listed_ranges`. Callers use `aa_glob`, which passes on what they need.
 #![tactic(auto)]
 
 mod bits;

@@ -16,7 +16,7 @@ use crate::symbol::{Symbol, first_symbol};
 use aa_bytes::ByteRange;
 use std::alloc::{AllocError, Global};
 
-/// Whether a class is negated, from the text behind its `[`, and the text of its members.
+/// Whether a class is negated, by the text after its `[`, and the text of its members.
 pub fn class_start(text: &[u8]) -> (bool, &[u8])
     ensures class { class (symbols text.now) ≡ set_of result.0 (members [] (symbols result.1.now)) }
     ensures behind { behind_class (symbols text.now) ≡ behind_class (symbols result.1.now) }
@@ -28,7 +28,11 @@ pub fn class_start(text: &[u8]) -> (bool, &[u8])
     }
 }
 
-/// Passes over the members of a class and its `]`: what follows it.
+/// Skips the members of a class and its `]`: returns what follows. It takes no memory.
+///
+/// # Errors
+///
+/// The first fault of the class: `BadEscape`, `BadRange`, `EmptyClass` or `UnclosedClass`.
 pub fn pass_members(text: &[u8]) -> Result<&[u8], PatternError>
     ensures reads { IfOk result (λ rest. (negated : Bool) → is_ok (set_of negated (members [] (symbols text.now))) ≡ true) }
     ensures behind { IfOk result (λ rest. behind_class (symbols text.now) ≡ elements Elsewhere (symbols rest.now)) }
@@ -50,9 +54,9 @@ pub fn pass_members(text: &[u8]) -> Result<&[u8], PatternError>
     }
 }
 
-/// Whether the members of a class list the byte. It takes no memory.
+/// Whether the members of a class list the byte. It takes no memory; `O(n)` in the length of the class.
 pub fn lists_byte(byte: u8, text: &[u8]) -> bool
-    // Of a text that is at fault it says nothing.
+    // Of a text with a fault the contract says nothing.
     ensures { (ranges : List ByteRange) → members [] (symbols text.now) ≡ Ok ranges → result ≡ is_listed byte ranges }
 {
     let mut rest = text;
@@ -70,8 +74,12 @@ pub fn lists_byte(byte: u8, text: &[u8]) -> bool
 }
 
 /// The members of a class, in the order of the text.
+///
+/// # Errors
+///
+/// Where memory runs out.
 pub fn listed_ranges(alloc: Global, text: &[u8]) -> Result<Vec<ByteRange>, AllocError>
-    // Of a text that is at fault it says nothing.
+    // Of a text with a fault the contract says nothing.
     ensures { IfOk result (λ listed. (ranges : List ByteRange) → members [] (symbols text.now) ≡ Ok ranges → listed.items ≡ ranges) }
 {
     let mut listed = Vec::new(alloc);
@@ -87,7 +95,7 @@ pub fn listed_ranges(alloc: Global, text: &[u8]) -> Result<Vec<ByteRange>, Alloc
     }
 }
 
-/// How many bytes a text has up to and with its first `]` without a backslash; all of them, where there is none.
+/// How many bytes a text has up to its first `]` without a backslash, that byte included; all of them where there is none.
 pub fn class_length(text: &[u8]) -> usize
     ensures value { result ≡ class_length text.now }
     ensures within { result ≤ length text.now }
@@ -101,7 +109,7 @@ pub fn class_length(text: &[u8]) -> usize
     if rest.is_empty() { length } else { length + 1 }
 }
 
-// How many bytes a text's first symbol has, and what follows it; none, where that symbol is the `]`.
+// How many bytes a text's first symbol has, and what follows it; `None` where that symbol is the `]`, or the text is empty.
 #[tactic(auto, using(crate::proofs::SymbolLemmas::class_length_byte, crate::proofs::SymbolLemmas::class_length_escaped, crate::proofs::SymbolLemmas::class_length_bracket))]
 fn before_bracket(text: &[u8]) -> Option<(usize, &[u8])>
     ensures end { IfNone result (class_length text.now ≡ min 1 (length text.now)) }

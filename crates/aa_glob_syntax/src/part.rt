@@ -1,4 +1,4 @@
-//! What comes next in a class: its members and its `]`.
+//! What comes next in a class: a member, or its `]`.
 
 ghost use Rattle.std.specs.Prelude.{◌≡◌, ◌≢◌, ◌∷◌, ◌<◌, ◌≤◌, List, length, false, Err, IfNone, IfSome, IfOk, IfErr};
 ghost use Rattle.aa_bytes.specs.Bytes.{closing_bracket};
@@ -15,13 +15,17 @@ use aa_bytes::ByteRange;
 /// What comes next in a class.
 #[derive(Clone, Copy)]
 pub enum Part<'a> {
-    /// A member, behind which this is left.
+    /// A member, and what follows it.
     Member(ByteRange, &'a [u8]),
-    /// The `]` that closes the class, behind which this is left.
+    /// The `]` that closes the class, and what follows it.
     End(&'a [u8]),
 }
 
-/// Reads what comes next in a class.
+/// Reads what comes next in a class. It takes no memory.
+///
+/// # Errors
+///
+/// `UnclosedClass` at the text's end, `BadEscape`, and `BadRange`.
 pub fn next_part(text: &[u8]) -> Result<Part, PatternError>
     ensures ok { IfOk result (λ part. IsPart (symbols text.now) part) }
     ensures refused { IfErr result (λ error. (before : List ByteRange) → members before (symbols text.now) ≡ Err error) }
@@ -40,7 +44,7 @@ pub fn next_part(text: &[u8]) -> Result<Part, PatternError>
     read_member(first, rest)
 }
 
-// Reads a member of a class behind its first symbol.
+// Reads a member of a class, of which the first symbol was read already.
 fn read_member(first: Symbol, text: &[u8]) -> Result<Part, PatternError>
     requires opens { is_plain closing_bracket first ≡ false }
     requires whole { is_broken first ≡ false }
@@ -61,8 +65,7 @@ fn read_member(first: Symbol, text: &[u8]) -> Result<Part, PatternError>
     Ok(Part::Member(range(first, end), rest))
 }
 
-// The symbol up to which a range reaches whose first symbol stands before the text, and what follows it; or nothing, where a
-// member there is one byte alone.
+// The last symbol of a range, by the text after the range's first symbol, and what follows it; `None` where the member is one byte alone.
 fn range_end(text: &[u8]) -> Option<(Symbol, &[u8])>
     ensures alone { IfNone result (is_range (symbols text.now) ≡ false) }
     ensures range { IfSome result (λ found. ReachesTo found.0 (symbols found.1.now) (symbols text.now)) }

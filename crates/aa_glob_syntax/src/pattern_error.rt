@@ -1,4 +1,4 @@
-//! Why a text was refused as a pattern.
+//! Why a text is refused as a pattern.
 
 ghost use Rattle.std.specs.Prelude.{◌≡◌};
 ghost use Rattle.aa_glob_syntax.specs.PatternError.{name_of, number_of, words_of};
@@ -8,7 +8,7 @@ use std::alloc::{AllocError, AllocFailed};
 use std::error::Error;
 use std::fmt::{self, Display, Formatter, Write};
 
-/// Why a text is no pattern. `docs/policy.md` has the rules, and in which order they are told.
+/// Why a text is no pattern. `docs/policy.md` has the rules, and the order in which they are checked.
 #[derive(Clone, Copy, Debug, PartialEq, Eq)]
 pub enum PatternError {
     /// The first byte isn't `/`, or there is none.
@@ -17,19 +17,19 @@ pub enum PatternError {
     UnclosedClass,
     /// A class lists no byte.
     EmptyClass,
-    /// The first byte of a range is above its last.
+    /// The first byte of a range is greater than its last.
     BadRange,
     /// A group has no `}` that closes it.
     UnclosedGroup,
     /// A `}` closes no group.
     StrayClose,
-    /// A group has one alternative alone.
+    /// A group has only one alternative.
     FewAlternatives,
-    /// A backslash stands at the end, or before a letter or digit.
+    /// A backslash comes at the end, or before a letter or digit.
     BadEscape,
     /// The text is longer than 4,096 bytes.
     TooLong,
-    /// More than 16 groups stand one in another.
+    /// More than 16 groups are nested in one another.
     TooDeep,
     /// The text holds a zero byte.
     ZeroByte,
@@ -78,7 +78,7 @@ impl PatternError {
         }
     }
 
-    /// What is wrong, in words for people.
+    /// What is wrong, in words for users.
     pub fn words(self) -> &'static str
         ensures { result.now ≡ words_of self }
     {

@@ -7,7 +7,7 @@ ghost use Rattle.aa_glob_syntax.specs.Symbols.{symbols};
 use crate::context::Context;
 use crate::symbol::{Symbol, first_symbol};
 
-/// Whether a run of stars whose first stands in the context, before the text, is a whole segment of its own.
+/// Whether a run of stars is a whole segment: `context` is that of its first star, and `text` what follows this star.
 pub fn is_whole_segment(context: Context, text: &[u8]) -> bool
     ensures { result ≡ is_whole_segment context (symbols text.now) }
 {
@@ -26,7 +26,7 @@ fn is_segment_end(text: &[u8]) -> bool
     }
 }
 
-/// What follows the stars that a text begins with.
+/// What follows the stars with which a text begins.
 pub fn behind_stars(text: &[u8]) -> &[u8]
     ensures symbols { symbols result.now ≡ behind_stars (symbols text.now) }
     ensures within { length result.now ≤ length text.now }
@@ -38,7 +38,7 @@ pub fn behind_stars(text: &[u8]) -> &[u8]
     rest
 }
 
-/// Whether a text begins with this byte, and no backslash stands before it.
+/// Whether a text begins with this byte, without a backslash before it.
 pub fn begins_plain(byte: u8, text: &[u8]) -> bool
     ensures { result ≡ begins_plain byte (symbols text.now) }
 {

@@ -1,4 +1,4 @@
-//! The symbols of a pattern's text: its bytes, each with the backslash that stands before it.
+//! The symbols of a pattern's text: its bytes, each with the backslash before it, if there is one.
 
 ghost use Rattle.std.specs.Prelude.{◌≡◌, ◌∷◌, [], ◌<◌, length, MatchOption, IfSome};
 ghost use Rattle.aa_glob_syntax.specs.Symbols.{byte_of, is_broken, is_plain, symbols};
@@ -6,16 +6,16 @@ ghost use Rattle.aa_glob_syntax.specs.Symbols.{byte_of, is_broken, is_plain, sym
 /// A symbol of a pattern's text.
 #[derive(Clone, Copy)]
 pub enum Symbol {
-    /// A byte.
+    /// A byte without a backslash.
     Plain(u8),
-    /// A byte behind a backslash, for which it stands.
+    /// A byte after a backslash, which stands for itself.
     Escaped(u8),
     /// A backslash at the end, or before a letter or digit.
     Broken,
 }
 
 impl Symbol {
-    /// Whether it is this byte, and no backslash stands before it.
+    /// Whether it is this byte, without a backslash.
     pub fn is_plain(self, byte: u8) -> bool
         ensures { result ≡ is_plain byte self }
     {
@@ -25,7 +25,7 @@ impl Symbol {
         }
     }
 
-    /// Whether it is a backslash that stands for nothing.
+    /// Whether it is a backslash that escapes nothing.
     pub fn is_broken(self) -> bool
         ensures { result ≡ is_broken self }
     {
@@ -35,7 +35,7 @@ impl Symbol {
         }
     }
 
-    /// The byte for which it stands. A broken one stands for none, and gives 0.
+    /// The byte for which it stands; 0 for a broken one, which stands for none.
     pub fn byte(self) -> u8
         ensures { result ≡ byte_of self }
     {
@@ -46,7 +46,7 @@ impl Symbol {
     }
 }
 
-/// The first symbol of a text, and what follows it; nothing follows a broken one.
+/// The first symbol of a text, and what follows it; nothing follows a broken one. `None` for an empty text. It takes no memory; `O(1)`.
 pub fn first_symbol(text: &[u8]) -> Option<(Symbol, &[u8])>
     ensures symbols { MatchOption result (symbols text.now ≡ []) (λ found. symbols text.now ≡ found.0 ∷ symbols found.1.now) }
     ensures shorter { IfSome result (λ found. length found.1.now < length text.now) }

@@ -5,8 +5,8 @@ use Rattle.std.specs.List.{AllByRecursion, filter}
 use Rattle.std.specs.Map.{lookup}
 use Rattle.std.specs.Str.{bytes_eq}
 
--- The set now, those that changes have left behind, oldest first, and those that going back has left, nearest first: all
--- of them in the order in which they came to be. And the marks: under a name how many sets are earlier than the one marked.
+-- The set now, the earlier sets, oldest first, and the undone ones, nearest first: all of them in the order in which they came about. And the marks:
+-- for each name how many sets are earlier than the marked one.
 pub record Machine (S : Type 0) : Type 0 where
   pub earlier : List S
   pub now : S
@@ -25,7 +25,7 @@ started set = record { earlier = []; now = set; later = []; marks = [] }
 abbrev pub up_to : ℕ → List (List ℕ × ℕ) → List (List ℕ × ℕ)
 up_to number marks = filter (λ mark. nat_le mark.1 number) marks
 
--- after an accepted change to a set: the old one can be gone back to, none can be gone on to, and the marks of later sets are dropped
+-- after an accepted change to a set: the old set can be undone to, nothing can be redone, and the marks of later sets are dropped
 abbrev pub accepted : {S : Type 0} → Machine S → S → Machine S
 accepted machine set =
     record {
@@ -35,33 +35,33 @@ accepted machine set =
       marks = up_to (length machine.earlier) machine.marks;
     }
 
--- the machine whose sets are these, in order, whose set now is the one at a place, and whose marks are these; where there is none at that place,
--- it is the one given
+-- the machine with these sets, in order, whose set now is the one at an index, and with these marks; where there is no set at that index, it is the
+-- given one
 abbrev pub standing_at : {S : Type 0} → ℕ → List S → S → List (List ℕ × ℕ) → Machine S
 standing_at place sets given marks =
     record { earlier = take place sets; now = slice_index_or sets place given; later = drop (place + 1) sets; marks = marks }
 
--- n changes can be gone back
+-- n changes can be undone
 abbrev pub can_go_back : {S : Type 0} → ℕ → Machine S → Bool
 can_go_back n machine = nat_le n (length machine.earlier)
 
--- n changes can be gone on
+-- n changes can be redone
 abbrev pub can_go_on : {S : Type 0} → ℕ → Machine S → Bool
 can_go_on n machine = nat_le n (length machine.later)
 
--- at a place among all sets, in order: the one there is the one now
+-- the machine at an index among all sets, in order: the set there is the set now
 abbrev pub gone_to : {S : Type 0} → ℕ → Machine S → Machine S
 gone_to place machine = standing_at place (all_sets machine) machine.now machine.marks
 
--- n changes back, where so many can be gone back: of the same sets the one n places nearer to the first is the one now
+-- n changes undone, where so many can be: of the same sets the one n indexes nearer to the first is the set now
 abbrev pub gone_back : {S : Type 0} → ℕ → Machine S → Machine S
 gone_back n machine = gone_to (length machine.earlier - n) machine
 
--- n changes on, where so many can be gone on: of the same sets the one n places nearer to the last is the one now
+-- n changes redone, where so many can be: of the same sets the one n indexes nearer to the last is the set now
 abbrev pub gone_on : {S : Type 0} → ℕ → Machine S → Machine S
 gone_on n machine = gone_to (length machine.earlier + n) machine
 
--- how many sets are earlier than the one marked by a name, where one is
+-- how many sets are earlier than the one marked by a name, if one is
 abbrev pub marked : {S : Type 0} → List ℕ → Machine S → Option ℕ
 marked name machine = lookup (λ other. bytes_eq other name) machine.marks
 
@@ -69,28 +69,28 @@ marked name machine = lookup (λ other. bytes_eq other name) machine.marks
 abbrev pub is_marked : {S : Type 0} → List ℕ → Machine S → Bool
 is_marked name machine = is_some (marked name machine)
 
--- marks with a number under a name: in place of the number that it has there, or else behind all
+-- marks with a number for a name: in place of the number that it has there, or else after all marks
 abbrev pub with_number : List ℕ → ℕ → List (List ℕ × ℕ) → List (List ℕ × ℕ)
 with_number name number [] = (name, number) ∷ []
 with_number name number (mark ∷ marks) = if bytes_eq mark.0 name then (name, number) ∷ marks else mark ∷ with_number name number marks
 
--- the set now is marked by a name, in place of the set that was
+-- the set now is marked by a name, in place of the set that was marked by it
 abbrev pub with_mark : {S : Type 0} → List ℕ → Machine S → Machine S
 with_mark name machine = record machine { marks = with_number name (length machine.earlier) machine.marks }
 
--- where so many sets are earlier: as many changes back as there are more now, or as many on as there are fewer, or none
+-- with so many earlier sets: as many changes undone as there are more now, or as many redone as there are fewer, or none
 abbrev pub gone_to_number : {S : Type 0} → ℕ → Machine S → Machine S
 gone_to_number number machine =
     if nat_lt number (length machine.earlier)
     then gone_back (length machine.earlier - number) machine
     else if nat_lt (length machine.earlier) number then gone_on (number - length machine.earlier) machine else machine
 
--- at the number that there is, if there is one
+-- gone to the number, if there is one
 abbrev pub gone_where : {S : Type 0} → Option ℕ → Machine S → Machine S
 gone_where None machine = machine
 gone_where (Some number) machine = gone_to_number number machine
 
--- at the set that is marked by a name, where one is
+-- gone to the set that is marked by a name, if one is
 abbrev pub gone_to_mark : {S : Type 0} → List ℕ → Machine S → Machine S
 gone_to_mark name machine = gone_where (marked name machine) machine
 
@@ -102,7 +102,7 @@ AreUpTo number marks = AllByRecursion (λ mark. mark.1 ≤ number) marks
 abbrev pub MarksItsSets : {S : Type 0} → Machine S → Type 0
 MarksItsSets machine = AreUpTo (length machine.earlier + length machine.later) machine.marks
 
--- the machine of what each set stands for
+-- the machine with each set mapped by a function
 abbrev pub mapped : {S T : Type 0} → (S → T) → Machine S → Machine T
 mapped f machine = record { earlier = map f machine.earlier; now = f machine.now; later = map f machine.later; marks = machine.marks }
 
@@ -111,10 +111,10 @@ pub record Kept (S : Type 0) : Type 0 where
   pub machine : Machine S
   pub sizes : List ℕ
 
--- a machine that has made no change yet, and so keeps none
+-- a machine that has made no change yet, and so keeps no sizes
 abbrev pub begun : {S : Type 0} → S → Kept S
 begun set = record { machine = started set; sizes = [] }
 
--- after an accepted change of so many parts to a set: of the changes kept, those that could be gone back stay, and it stands behind them
+-- after an accepted change of so many parts to a set: of the changes kept, those that could be undone stay, followed by the new one
 abbrev pub committed : {S : Type 0} → Kept S → S → ℕ → Kept S
 committed kept set size = record { machine = accepted kept.machine set; sizes = take (length kept.machine.earlier) kept.sizes ++ size ∷ [] }

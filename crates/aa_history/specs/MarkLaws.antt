@@ -1,15 +1,15 @@
--- What holds of the marks of every machine.
+-- Laws on the marks of every machine.
 use Rattle.std.specs.Prelude.{◌≡◌, ◌≢◌, ℕ, ◌≤◌, true, if◌then◌else◌, Some, List, [], ◌∷◌, length}
 use Rattle.aa_history.specs.Machine.{Machine, MarksItsSets, accepted, all_sets, can_go_back, can_go_on, gone_back, gone_on, gone_to_mark}
 use Rattle.aa_history.specs.Machine.{is_marked, mapped, marked, started, with_mark}
 
--- a name marks the set now
+-- a new mark is of the set now
 abbrev pub NewMarkIsOfNow : (S : Type 0) → Type 0
 NewMarkIsOfNow S =
     (name : List ℕ) (machine : Machine S)
     → marked name (with_mark name machine) ≡ Some (length machine.earlier)
 
--- and no other name marks another set
+-- a new mark leaves the marks of all other names
 abbrev pub NewMarkLeavesOthers : (S : Type 0) → Type 0
 NewMarkLeavesOthers S =
     (name other : List ℕ) (machine : Machine S)
@@ -23,7 +23,7 @@ SameMarksLeadToOne S =
     → marked name machine ≡ marked other machine
     → gone_to_mark name machine ≡ gone_to_mark other machine
 
--- what can happen to a machine: an accepted change to a set, so many changes back, or on, where so many can be gone, a mark, or going to one
+-- what can happen to a machine: an accepted change to a set, so many changes undone, or redone, where so many can be, a mark, or going to one
 pub data Step (S : Type 0) : Type 0 where
   Accept : (set : S) → Step S
   Undo : (n : ℕ) → Step S
@@ -52,7 +52,7 @@ Spares name number machine (Redo n) = Unit {0}
 Spares name number machine (Mark other) = other ≢ name
 Spares name number machine (Return other) = Unit {0}
 
--- and so each of some steps
+-- each of some steps does neither
 abbrev pub SparesThroughout : {S : Type 0} → List ℕ → ℕ → Machine S → List (Step S) → Type 0
 SparesThroughout name number machine [] = Unit {0}
 SparesThroughout name number machine (step ∷ steps) = Spares name number machine step × SparesThroughout name number (stepped machine step) steps
@@ -67,14 +67,14 @@ StepsMarkTheirSets S =
     → MarksItsSets machine
     → MarksItsSets (run machine steps)
 
--- Going to a mark keeps every set and their order, so that all that could be gone back or on to still can be, and it keeps every mark.
+-- Going to a mark keeps every set and their order, so that all that could be undone or redone still can be, and it keeps every mark.
 abbrev pub MarkKeepsAll : (S : Type 0) → Type 0
 MarkKeepsAll S =
     (name : List ℕ) (machine : Machine S)
     → MarksItsSets machine
     → (all_sets (gone_to_mark name machine) ≡ all_sets machine) × ((gone_to_mark name machine).marks ≡ machine.marks)
 
--- at a mark as many changes can be gone back as its number says
+-- at a mark as many changes can be undone as its number says
 abbrev pub MarkIsReached : (S : Type 0) → Type 0
 MarkIsReached S =
     (name : List ℕ) (number : ℕ) (machine : Machine S)
@@ -89,8 +89,8 @@ MarkTwiceIsOnce S =
     → MarksItsSets machine
     → gone_to_mark name (gone_to_mark name machine) ≡ gone_to_mark name machine
 
--- Whatever happens after a set was marked, as long as no change was accepted with fewer earlier sets and the name wasn't given away, the name still
--- marks a set, and going there leads to the very set, and to the earlier ones that there were.
+-- Whatever happens after a set was marked, as long as no change was accepted with fewer earlier sets and the name wasn't given to another set, the
+-- name still marks a set, and going there leads to that very set, with the same earlier sets.
 abbrev pub MarkLeadsBack : (S : Type 0) → Type 0
 MarkLeadsBack S =
     (name : List ℕ) (machine : Machine S) (steps : List (Step S))
@@ -99,14 +99,14 @@ MarkLeadsBack S =
     → let after = run (with_mark name machine) steps in
     (is_marked name after ≡ true) × ((gone_to_mark name after).now ≡ machine.now) × ((gone_to_mark name after).earlier ≡ machine.earlier)
 
--- where each set stands for something, a name has the same number
+-- a name has the same number in the mapped machine
 abbrev pub MarkedIsMapped : (S T : Type 0) → Type 0
 MarkedIsMapped S T = (f : S → T) (name : List ℕ) (machine : Machine S) → marked name (mapped f machine) ≡ marked name machine
 
--- marking a set stands for marking what it stands for
+-- mapping commutes with marking
 abbrev pub MarkIsMapped : (S T : Type 0) → Type 0
 MarkIsMapped S T = (f : S → T) (name : List ℕ) (machine : Machine S) → mapped f (with_mark name machine) ≡ with_mark name (mapped f machine)
 
--- going to a mark stands for going to it between what the sets stand for
+-- mapping commutes with going to a mark
 abbrev pub ToMarkIsMapped : (S T : Type 0) → Type 0
 ToMarkIsMapped S T = (f : S → T) (name : List ℕ) (machine : Machine S) → mapped f (gone_to_mark name machine) ≡ gone_to_mark name (mapped f machine)

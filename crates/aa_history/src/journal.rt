@@ -13,7 +13,7 @@ use std::alloc::{AllocError, Global};
 use std::marker::Model;
 use thiserror::Error;
 
-/// So many changes can't be undone or redone, but `have` can.
+/// Fewer changes than were asked for can be undone or redone: `have`.
 #[derive(Clone, Copy, Debug, PartialEq, Eq, Error)]
 #[error("no more than {have} changes can be undone or redone")]
 pub struct Short {
@@ -26,18 +26,18 @@ pub struct Short {
 #[error("nothing is marked by the name")]
 pub struct NoMark;
 
-/// A state, with the changes that lead back to the earlier states and on to the later ones, and with names for some of these states.
+/// A state, with the changes that undo and redo lead through, and with names for some of its earlier and later states.
 ///
-/// Contracts see the machine that keeps whole states (docs/guarantees.md): the state now, the earlier ones, oldest first, and the later
-/// ones, nearest first, each by what it stands for (`Change::means`), and the marks, each a name and how many states are earlier than the one that
-/// it marks. Beside it they see how many parts each change has, in the same order: first those that can be undone, oldest first, and then those
-/// that can be redone, nearest first.
+/// Contracts see the machine that keeps whole states (docs/guarantees.md): the state now, the earlier ones, oldest first, and the later ones,
+/// nearest first, each by what it stands for (`Change::means`), and the marks, each a name and how many states are earlier than the one that it
+/// marks. They also see how many parts each change has, in the same order: first those that can be undone, oldest first, and then those that can be
+/// redone, nearest first.
 #[derive(Drop)]
 pub struct Journal<S: Drop, C: Change<S>> {
     state: S,
-    // The changes that lead back, and then those that lead on.
+    // The changes that can be undone, oldest first, and then those that can be redone, nearest first.
     changes: Vec<C>,
-    // How many of the changes lead back.
+    // How many of the changes can be undone.
     done: usize,
     marks: Marks,
 }
@@ -61,7 +61,7 @@ impl<S: Drop, C: Change<S>> Model for Journal<S, C> {
 }
 
 impl<S: Drop, C: Change<S>> Journal<S, C> {
-    /// A journal of a state that no change has been made to yet. It takes no memory; `alloc` is for the changes to come.
+    /// A journal of a state to which no change was made yet. It takes no memory; `alloc` is for the changes to come.
     pub fn new(alloc: Global, state: S) -> Journal<S, C>
         ensures { result ≡ begun (C.means state) }
     {
@@ -73,15 +73,15 @@ impl<S: Drop, C: Change<S>> Journal<S, C> {
         }
     }
 
-    /// The state now.
+    /// The state now. It takes no memory; `O(1)`.
     pub fn state(&self) -> &S
         ensures { C.means result.now ≡ self.now.machine.now }
     {
         &self.state
     }
 
-    /// Does something to the state that leaves what it stands for as it was: no change is made, and nothing else is seen of it. What it leaves has to be
-    /// what the changes go by, as `C::means` and `C::room` say.
+    /// Does something to the state that doesn't change what it stands for: no change is recorded, and contracts see nothing of it. It must leave
+    /// `C::means` and `C::room` of the state as they were.
     pub fn tend<T: Tend<S>>(&mut self, tend: &T)
         requires kept { (state : S) → T.kept state ≡ C.means state }
         requires room { (state : S) → T.room state ≡ C.room state }
@@ -90,27 +90,27 @@ impl<S: Drop, C: Change<S>> Journal<S, C> {
         tend.tend(&mut self.state);
     }
 
-    /// How many changes can be undone.
+    /// How many changes can be undone. It takes no memory; `O(1)`.
     pub fn depth(&self) -> usize
         ensures { result ≡ length self.now.machine.earlier }
     {
         self.done
     }
 
-    /// How many changes can be redone.
+    /// How many changes can be redone. It takes no memory; `O(1)`.
     pub fn ahead(&self) -> usize
         ensures { result ≡ length self.now.machine.later }
     {
         self.changes.len() - self.done
     }
 
-    /// Makes a change to the state, and keeps the way back. What could be redone can't be any more, and the marks of states that were to be redone
-    /// are dropped.
+    /// Makes a change to the state, and records how to undo it. Changes that could be redone are dropped, and so are the marks of the states to
+    /// which they led.
     ///
     /// # Errors
     ///
-    /// `AllocError`, with the change as it was, where memory runs out: to keep the change in, or for the room that it needs. The journal is as
-    /// it was then: the state stands for what it stood for, the same changes can be undone and redone, and the same states are marked.
+    /// `AllocError`, with the change as it was, where memory runs out: to keep the change, or for the room that it needs. The journal is then
+    /// unchanged: the state stands for what it stood for, the same changes can be undone and redone, and the same states are marked.
     pub fn commit(&mut self, change: C) -> Result<(), (C, AllocError)>
         ensures ok { OnOk result (self.new ≡ committed self.old (C.after self.old.machine.now change) (C.parts change)) }
         ensures handed_back { IfErr result (λ refused. refused.0 ≡ change) }
@@ -128,15 +128,15 @@ impl<S: Drop, C: Change<S>> Journal<S, C> {
         Ok(())
     }
 
-    /// How many parts all changes have together (`Change::size`), those that can be undone and those that can be redone: the measure of what
-    /// the way back and on takes. It asks each change, and takes no memory.
+    /// How many parts all changes have together (`Change::size`), those that can be undone and those that can be redone: a measure of the memory of
+    /// the history. It takes no memory; `O(n)` calls of `Change::size` for n changes.
     pub fn kept(&self) -> u128
         ensures { result ≡ sum self.now.sizes }
     {
         kept_by::<S, C>(&self.changes)
     }
 
-    // One change back.
+    // Undoes one change.
     fn step_back(&mut self)
         requires { 0 < length self.old.machine.earlier }
         ensures { self.new ≡ record self.old { machine = gone_back 1 self.old.machine } }
@@ -146,7 +146,7 @@ impl<S: Drop, C: Change<S>> Journal<S, C> {
         last.turn(&mut self.state);
     }
 
-    // One change on.
+    // Redoes one change.
     fn step_on(&mut self)
         requires { 0 < length self.old.machine.later }
         ensures { self.new ≡ record self.old { machine = gone_on 1 self.old.machine } }
@@ -156,7 +156,7 @@ impl<S: Drop, C: Change<S>> Journal<S, C> {
         self.done += 1;
     }
 
-    // As many changes back.
+    // Undoes `n` changes.
     fn steps_back(&mut self, n: usize)
         requires { n ≤ length self.old.machine.earlier }
         ensures { self.new ≡ record self.old { machine = gone_back n self.old.machine } }
@@ -166,7 +166,7 @@ impl<S: Drop, C: Change<S>> Journal<S, C> {
         }
     }
 
-    // As many changes on.
+    // Redoes `n` changes.
     fn steps_on(&mut self, n: usize)
         requires { n ≤ length self.old.machine.later }
         ensures { self.new ≡ record self.old { machine = gone_on n self.old.machine } }
@@ -176,7 +176,7 @@ impl<S: Drop, C: Change<S>> Journal<S, C> {
         }
     }
 
-    /// Goes `n` changes back: the state is the one from before the last `n` changes. It takes no memory.
+    /// Undoes the last `n` changes. It takes no memory; it turns n changes.
     ///
     /// # Errors
     ///
@@ -195,7 +195,7 @@ impl<S: Drop, C: Change<S>> Journal<S, C> {
         Ok(())
     }
 
-    /// Goes `n` changes on: the state is the one from before the last `n` changes were undone. It takes no memory.
+    /// Redoes the last `n` changes that were undone. It takes no memory; it turns n changes.
     ///
     /// # Errors
     ///
@@ -214,11 +214,12 @@ impl<S: Drop, C: Change<S>> Journal<S, C> {
         Ok(())
     }
 
-    /// Marks the state now by a name, in place of the state that the name has marked so far. Such a name takes no memory.
+    /// Marks the state now by a name; the name then no longer marks another state. A name that is in use takes no memory. `O(m)` comparisons of
+    /// names for m marks.
     ///
     /// # Errors
     ///
-    /// `AllocError`, with the name, where memory runs out, and nothing was marked by the name. The journal is as it was then.
+    /// `AllocError`, with the name, where memory runs out, which it may only where nothing was marked by the name. The journal is then unchanged.
     pub fn mark(&mut self, name: Vec<u8>) -> Result<(), (Vec<u8>, AllocError)>
         ensures ok { OnOk result (self.new ≡ record self.old { machine = with_mark name.items self.old.machine }) }
         ensures handed_back { IfErr result (λ refused. refused.0 ≡ name) }
@@ -228,25 +229,27 @@ impl<S: Drop, C: Change<S>> Journal<S, C> {
         self.marks.set(name, self.done)
     }
 
-    /// The marks, in the order in which their names were first given. It takes no memory.
+    /// The marks, in the order in which their names were first given. It takes no memory; `O(1)`.
     pub fn marks(&self) -> &[Mark]
         ensures { seen_marks result.now ≡ self.now.machine.marks }
     {
         self.marks.as_slice()
     }
 
-    /// How many changes had been made to the state that is marked by a name, where one is. It takes no memory.
+    /// How many changes had been made to the state that is marked by a name; `None` where none is. It takes no memory; `O(m)` comparisons of names
+    /// for m marks.
     pub fn marked(&self, name: &[u8]) -> Option<usize>
         ensures { result ≡ marked name.now self.now.machine }
     {
         self.marks.number_of(name)
     }
 
-    /// Goes back, or on, to the state that is marked by a name. It takes no memory, and all that could be undone or redone still can be.
+    /// Goes to the state that is marked by a name, by undoing or redoing the changes between. It takes no memory, and all that could be undone or
+    /// redone still can be.
     ///
     /// # Errors
     ///
-    /// `NoMark` where nothing is marked by the name. The journal is as it was then.
+    /// `NoMark` where nothing is marked by the name. The journal is then unchanged.
     pub fn back(&mut self, name: &[u8]) -> Result<(), NoMark>
         ensures can { OnOk result (is_marked name.now self.old.machine ≡ true) }
         ensures ok { OnOk result (self.new ≡ record self.old { machine = gone_to_mark name.now self.old.machine }) }
@@ -263,7 +266,7 @@ impl<S: Drop, C: Change<S>> Journal<S, C> {
         }
     }
 
-    // Goes back, or on, to where so many changes can be undone.
+    // Undoes or redoes changes until `number` can be undone.
     fn go_to(&mut self, number: usize)
         requires { number ≤ length self.old.machine.earlier + length self.old.machine.later }
         ensures { self.new ≡ record self.old { machine = gone_to_number number self.old.machine } }
@@ -290,7 +293,7 @@ fn kept_by<S, C: Change<S>>(changes: &[C]) -> u128
     kept
 }
 
-// Makes room for one more change behind those that lead back, of which there are `done`.
+// Makes room for a change after those that can be undone, of which there are `done`.
 fn room_for_one<C>(changes: &mut Vec<C>, done: usize) -> Result<(), AllocError>
     requires { done ≤ length changes.old.items }
     ensures same { changes.new.items ≡ changes.old.items }
@@ -302,7 +305,7 @@ fn room_for_one<C>(changes: &mut Vec<C>, done: usize) -> Result<(), AllocError>
     Ok(())
 }
 
-// Puts a change behind the changes that lead back, of which there are `done`, in place of those that led on.
+// Puts a change after those that can be undone, of which there are `done`, and drops those that could be redone.
 fn put<C: Drop>(changes: &mut Vec<C>, done: usize, change: C)
     requires within { done ≤ length changes.old.items }
     requires room { done < vec_capacity changes.old }

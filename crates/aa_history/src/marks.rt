@@ -9,22 +9,22 @@ ghost use Rattle.aa_history.specs.SeenMarks.{seen_marks};
 use std::alloc::{AllocError, Global};
 use std::marker::Model;
 
-/// A mark of a set. Contracts see many of them by `seen_marks`.
+/// A mark of a state. Contracts see lists of marks by `seen_marks`.
 #[derive(Drop)]
 pub struct Mark {
-    /// The name that marks the set.
+    /// The name that marks the state.
     pub name: Vec<u8>,
-    /// How many sets are earlier than the marked one.
+    /// How many states are earlier than the marked one.
     pub number: usize,
 }
 
-/// Names, each with a number: how many sets are earlier than the one that it marks.
+/// Names, each with a number: how many states are earlier than the one that it marks.
 ///
 /// Contracts see the list of the names and their numbers.
 #[derive(Drop)]
 pub(crate) struct Marks {
     marks: Vec<Mark>,
-    // No number is greater, so that what is not above it needs no look at the marks.
+    // No mark has a greater number, so that most changes needn't look at the marks.
     greatest: usize,
 }
 
@@ -51,25 +51,25 @@ impl Marks {
         }
     }
 
-    /// All of them, in their order.
+    /// All marks, in the order in which their names were first given.
     pub(crate) fn as_slice(&self) -> &[Mark]
         ensures { seen_marks result.now ≡ self.now }
     {
         &self.marks
     }
 
-    /// The number that a name has. It takes no memory.
+    /// The number of a name. It takes no memory.
     pub(crate) fn number_of(&self, name: &[u8]) -> Option<usize>
         ensures { result ≡ lookup (λ other. bytes_eq other name.now) self.now }
     {
         number_among(&self.marks, name)
     }
 
-    /// Gives a name a number, in place of the one that it has.
+    /// Gives a name a number, replacing the one that it has.
     ///
     /// # Errors
     ///
-    /// `AllocError`, with the name, where memory runs out, which may be only where the name has no number yet. Nothing is changed then.
+    /// `AllocError`, with the name, where memory runs out, which it may only where the name has no number yet. Nothing is changed then.
     pub(crate) fn set(&mut self, name: Vec<u8>, number: usize) -> Result<(), (Vec<u8>, AllocError)>
         ensures ok { OnOk result (self.new ≡ with_number name.items number self.old) }
         ensures handed_back { IfErr result (λ refused. refused.0 ≡ name) }
@@ -81,7 +81,7 @@ impl Marks {
         Ok(())
     }
 
-    /// Drops what has a number above this one. It takes no memory, and looks at the marks only where one may have such a number.
+    /// Drops the marks with a greater number than this one. It takes no memory, and goes over the marks only where one may have such a number.
     pub(crate) fn keep_up_to(&mut self, number: usize)
         ensures { self.new ≡ up_to number self.old }
     {
@@ -92,7 +92,7 @@ impl Marks {
     }
 }
 
-// The number that a name has among marks.
+// The number of a name among marks.
 fn number_among(marks: &[Mark], name: &[u8]) -> Option<usize>
     ensures { result ≡ lookup (λ other. bytes_eq other name.now) (seen_marks marks.now) }
 {
@@ -106,7 +106,7 @@ fn number_among(marks: &[Mark], name: &[u8]) -> Option<usize>
     None
 }
 
-// Gives a name a number among marks, in place of the one that it has, or else behind all.
+// Gives a name a number among marks, replacing the one that it has; a new name comes after all others.
 fn set_among(
     marks: &mut Vec<Mark>,
     name: Vec<u8>,
@@ -130,7 +130,7 @@ fn set_among(
     }
 }
 
-// Drops the marks whose numbers are above this one.
+// Drops the marks with a greater number than this one.
 fn keep_among(marks: &mut Vec<Mark>, number: usize)
     ensures { seen_marks marks.new.items ≡ up_to number (seen_marks marks.old.items) }
 {

@@ -1,9 +1,8 @@
-//! What is done to a state that changes nothing of what it stands for.
+//! Work on a state that changes nothing of what it stands for.
 
 ghost use Rattle.std.specs.Prelude.{◌≡◌, ℕ};
 
-/// Something that is done to a state of type `S` and leaves what it stands for, and the room that it has, as they were: as to make ready in it what
-/// questions need.
+/// Work on a state of type `S` that changes neither what it stands for nor the room that it has, as building an index in it.
 pub trait Tend<S> {
     /// What a state stands for.
     ghost kept: { S → S };
@@ -11,7 +10,7 @@ pub trait Tend<S> {
     /// How much room a state has.
     ghost room: { S → ℕ };
 
-    /// Does it.
+    /// Does the work.
     fn tend(&self, state: &mut S)
         ensures kept { kept state.new ≡ kept state.old }
         ensures room { room state.new ≡ room state.old };

@@ -1,4 +1,4 @@
--- The variables of a file: what its assignments define, and which of them can't be worked out (docs/policy.md, "Variables").
+-- The variables of a file: what its assignments define, and which of them are refused (docs/policy.md, "Variables").
 use Rattle.std.specs.Prelude.{ℕ, Bool, if◌then◌else◌, List, [], ◌∷◌, ◌++◌, map, find, Option, None, Some, Result, Ok, Err}
 use Rattle.std.specs.List.{flat_map}
 use Rattle.std.specs.Option.{option_map}
@@ -34,7 +34,7 @@ all_assigned variables (assignment ∷ assignments) = elim (assigned variables a
   | Ok next ↦ all_assigned next assignments
 ]
 
--- the tokens in which names of variables count: the values of the assignments, then the patterns
+-- the tokens in which names of variables are looked up: the values of the assignments, then the patterns
 abbrev pub naming : List Assignment → List Placed → List Placed
 naming assignments patterns = flat_map (λ assignment. assignment.values) assignments ++ patterns
 
@@ -42,7 +42,7 @@ naming assignments patterns = flat_map (λ assignment. assignment.values) assign
 abbrev pub first_undefined : List Variable → List Placed → Option Placed
 first_undefined variables tokens = find (λ token. names_undefined variables (text_of token)) tokens
 
--- its refusal, at this token
+-- the refusal of that token, with its place
 abbrev pub undefined_name : List Variable → List Assignment → List Placed → Option ProfileError
 undefined_name variables assignments patterns =
     option_map (λ token. placed (Text Undefined) (place_of token)) (first_undefined variables (naming assignments patterns))

@@ -23,7 +23,7 @@ pattern_of (OnNetwork qualifiers word sockets) = None
 pattern_of (Kept qualifiers tokens) = None
 pattern_of (All qualifiers word) = Some (all_files word)
 
--- The pattern of a written rule, where a rule that it makes conflicts with one before that. Others come before all that it makes.
+-- The pattern of a written rule, where a rule that it makes conflicts with one before it. Others come before all that it makes.
 abbrev pub conflict_in_rule : Language → List Variable → List Rule → WrittenRule → Option Placed
 conflict_in_rule language variables before rule =
     if is_some (first_conflict before (rules_of_rule language variables rule)) then pattern_of rule else None
@@ -56,7 +56,7 @@ conflict_in_profiles language variables (profile ∷ profiles) = elim (conflict_
   | None ↦ conflict_in_profiles language variables profiles
 ]
 
--- its refusal, at this pattern
+-- the refusal of that pattern, with its place
 abbrev pub refusal_of_conflicts : Language → List Variable → List Profile → Option ProfileError
 refusal_of_conflicts language variables profiles =
     option_map (λ pattern. placed ExecConflict (place_of pattern)) (conflict_in_profiles language variables profiles)

@@ -19,7 +19,7 @@ use Rattle.aa_profile_parsing.specs.ProfileError.{error_of_grammar, refusal_of_t
 use Rattle.aa_profile.specs.Profiles.{profile_of}
 use Rattle.aa_profile_parsing.specs.declared.profile_error.ProfileError.{ProfileError}
 
--- the refusal of patterns: there are too many, or some are none
+-- the refusal of patterns: there are too many, or some text is no pattern
 abbrev pub refusal_of_patterns : List Variable → List Placed → Option ProfileError
 refusal_of_patterns variables patterns = elim (over_limit variables patterns) [ Some refusal ↦ Some refusal | None ↦ first_bad variables patterns ]
 
@@ -30,7 +30,7 @@ refusal_of_blocks language variables profiles = elim (refusal_of_states language
   | None ↦ refusal_of_conflicts language variables profiles
 ]
 
--- the refusal of a file's rules: some of its patterns can't be, or its blocks are refused
+-- the refusal of a file's rules: some of its patterns are refused, or its blocks are
 abbrev pub refusal_of_rules : Language → List Variable → List WrittenProfile → Option ProfileError
 refusal_of_rules language variables profiles = elim (refusal_of_patterns variables (of_profiles profiles)) [
   | Some refusal ↦ Some refusal
@@ -55,13 +55,13 @@ profiles_in language file = elim (variables_of file.assignments (of_profiles fil
 abbrev pub profiles_of : Language → List Placed → Result (List Profile) ProfileError
 profiles_of language tokens = elim (file language tokens) [ Err error ↦ Err (error_of_grammar error) | Ok file ↦ profiles_in language file ]
 
--- the profiles that a file of the handed-in ones spells, read by a language, in its order
+-- the profiles of a file among the files, read by a language, in its order
 abbrev pub file_profiles_in : Language → List HandedIn → List ℕ → Result (List Profile) ProfileError
 file_profiles_in language files name = elim (spliced files name) [
   | Err fault ↦ Err (record { refusal = refusal_of_text fault.0; place = fault.1 })
   | Ok tokens ↦ profiles_of language tokens
 ]
 
--- those that it spells by language 3
+-- the profiles of a file, read by language 3
 abbrev pub file_profiles : List HandedIn → List ℕ → Result (List Profile) ProfileError
 file_profiles files name = file_profiles_in Three files name

@@ -1,4 +1,4 @@
--- What the law on conflicts speaks of.
+-- Definitions for the law on conflicts.
 use Rattle.std.specs.Prelude.{◌≡◌, ◌↔◌, List, map, None}
 use Rattle.std.specs.List.{All}
 use Rattle.aa_profile_data.specs.ConflictLaws.{NoneConflict}
@@ -16,11 +16,11 @@ use Rattle.aa_profile.specs.Profiles.{profile_of}
 abbrev pub ChildHasNoConflict : Child → Type 0
 ChildHasNoConflict child = NoneConflict child.rules
 
--- nor does one of a profile, or of its children and hats
+-- no rule of a profile, or of its children and hats, conflicts with an earlier one
 abbrev pub HasNoConflict : Profile → Type 0
 HasNoConflict profile = NoneConflict profile.rules × All ChildHasNoConflict profile.children
 
--- Where the patterns of a file's profiles are fine, none of them is refused for a conflict exactly where none of their rules conflicts with an
+-- Where the patterns of a file's profiles are fine, the profiles aren't refused for a conflict exactly where none of their rules conflicts with an
 -- earlier one.
 abbrev pub ConflictsAreRefused : Type 0
 ConflictsAreRefused =

@@ -29,10 +29,10 @@ IsNarrowRule (Cap rule) = Unit
 IsNarrowRule (Net rule) = Unit
 IsNarrowRule (Other rule) = Unit
 
--- a child or a hat isn't in the mode unconfined, and its rules are such ones
+-- a child or a hat isn't in the mode unconfined, and all its rules are narrow
 abbrev pub IsNarrowChild : Child → Type 0
 IsNarrowChild child = (child.mode ≢ Unconfined) × All IsNarrowRule child.rules
 
--- a profile isn't in the mode unconfined, and its rules and its children and hats are such ones
+-- a profile isn't in the mode unconfined, and all its rules and its children and hats are narrow
 abbrev pub IsNarrow : Profile → Type 0
 IsNarrow profile = (profile.mode ≢ Unconfined) × All IsNarrowRule profile.rules × All IsNarrowChild profile.children

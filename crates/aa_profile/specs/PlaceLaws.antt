@@ -1,4 +1,4 @@
--- What the law on places speaks of: which rules are made where.
+-- Definitions for the law on places: which rules are made where.
 use Rattle.std.specs.Prelude.{◌≡◌, ℕ, List, [], ◌∷◌, Option, Ok}
 use Rattle.std.specs.List.{Contains, flat_map}
 use Rattle.aa_text_files.specs.Files.{File as HandedIn}
@@ -26,7 +26,7 @@ pub record IsMadeAt (language : Language) (variables : List Variable) (written :
   pub makes : Contains (rules_of_rule language variables source) rule
   pub stands : place ≡ place_of_rule source
 
--- there are as many places as rules, and each rule is made of the written ones at the place that stands for it
+-- there are as many places as rules, and each rule is made of a written one at its place
 abbrev pub AreMadeAt : Language → List Variable → List WrittenRule → List Rule → List (Option Place) → Type 0
 AreMadeAt language variables written [] [] = Unit
 AreMadeAt language variables written [] (place ∷ places) = ⊥
@@ -34,12 +34,12 @@ AreMadeAt language variables written (rule ∷ rules) [] = ⊥
 AreMadeAt language variables written (rule ∷ rules) (place ∷ places) =
     IsMadeAt language variables written rule place × AreMadeAt language variables written rules places
 
--- So are those of a child or a hat of its own written ones, and its attachment stands where it is written.
+-- The rules of a child or a hat are made of its own written ones in this way, and its attachment is written at its place.
 abbrev pub IsChildMadeAt : Language → List Variable → WrittenChild → Child → SectionPlaces → Type 0
 IsChildMadeAt language variables written child places =
     AreMadeAt language variables written.rules child.rules places.rules × (places.attachment ≡ place_of_attachment written.head)
 
--- So are those of each of some children and hats: as many of them are written as there are, and there are as many places.
+-- Each of some children and hats is made in this way: as many of them are written as there are, and there are as many places.
 abbrev pub AreChildrenMadeAt : Language → List Variable → List WrittenChild → List Child → List SectionPlaces → Type 0
 AreChildrenMadeAt language variables [] [] [] = Unit
 AreChildrenMadeAt language variables (source ∷ written) (child ∷ children) (own ∷ places) =
@@ -54,7 +54,7 @@ rule_in (OfChild child) = []
 abbrev pub rules_in : List Member → List WrittenRule
 rules_in members = flat_map rule_in members
 
--- the children and hats among them
+-- the children and hats among the members of a block
 abbrev pub child_in : Member → List WrittenChild
 child_in (OfRule rule) = []
 child_in (OfChild child) = child ∷ []
@@ -62,21 +62,21 @@ child_in (OfChild child) = child ∷ []
 abbrev pub children_in : List Member → List WrittenChild
 children_in members = flat_map child_in members
 
--- So are those of a profile, of the rules of its own block, and those of its children and hats.
+-- A profile is made in this way, by the rules of its own block, and its children and hats are.
 abbrev pub IsProfileMadeAt : Language → List Variable → WrittenProfile → Profile → ProfilePlaces → Type 0
 IsProfileMadeAt language variables written profile places =
     AreMadeAt language variables (rules_in written.members) profile.rules places.own.rules
     × (places.own.attachment ≡ place_of_attachment written.head)
     × AreChildrenMadeAt language variables (children_in written.members) profile.children places.children
 
--- So are those of each of some profiles.
+-- Each of some profiles is made in this way.
 abbrev pub AreProfilesMadeAt : Language → List Variable → List WrittenProfile → List Profile → List ProfilePlaces → Type 0
 AreProfilesMadeAt language variables [] [] [] = Unit
 AreProfilesMadeAt language variables (source ∷ written) (profile ∷ profiles) (own ∷ places) =
     IsProfileMadeAt language variables source profile own × AreProfilesMadeAt language variables written profiles places
 AreProfilesMadeAt language variables _ _ _ = ⊥
 
--- So are those of the profiles of a file: what is written is what its tokens make by the grammar, and the variables are its own.
+-- The profiles of a file are made in this way: what is written is what its tokens make by the grammar, and the variables are its own.
 abbrev pub AreFileMadeAt : Language → List HandedIn → List ℕ → List Profile → List ProfilePlaces → Type 0
 AreFileMadeAt language files name profiles places =
     (tokens : List Placed) × (written : File) × (variables : List Variable)

@@ -1,4 +1,5 @@
--- Plain patterns (apparmor.d(5), "Execute Rules"; docs/policy.md, "The start of a program"): those without stars, `?` and classes that begin with `^`.
+-- Plain patterns (apparmor.d(5), "Execute Rules"; docs/policy.md, "The start of a program"): those without stars, `?` and classes that begin with
+-- `^`.
 use Rattle.std.specs.Prelude.{ℕ, Bool, true, false, not, List}
 use Rattle.std.specs.List.{list_all}
 use Rattle.aa_bytes.specs.declared.byte_set.ByteSet.{ByteSet}
@@ -8,7 +9,7 @@ use Rattle.aa_glob_syntax.specs.Items.{Byte, DoubleStar, Group, Item, Set, Star}
 use Rattle.aa_glob_syntax.specs.Symbols.{symbols}
 use Rattle.aa_glob_syntax.specs.declared.context.Context.TheVariants.{Elsewhere}
 
--- a set that lists bytes is plain: not one of those that aren't listed, and not that of `?`
+-- a set that lists bytes is plain: not a negated one, and not that of `?`
 abbrev pub is_plain_set : ByteSet → Bool
 is_plain_set Inside = false
 is_plain_set (Class negated ranges) = not negated

@@ -35,11 +35,11 @@ use Rattle.aa_text_variables.specs.Variables.{Variable}
 use Rattle.aa_profile_grammar.specs.Patterns.{patterns_at}
 use Rattle.aa_profile.specs.Plainness.{is_plain}
 
--- a token as it stands in its file
+-- a token as it is written in its file
 abbrev pub span_of : Placed → List ℕ
 span_of token = if is_quoted token.token.kind then quote ∷ text_of token ++ quote ∷ [] else text_of token
 
--- a text and one more token behind it: with one blank between them, but none before a Comma
+-- a text followed by one more token: with one blank between them, but none before a Comma
 abbrev pub with_token : List ℕ → Placed → List ℕ
 with_token text token = if is_empty text || is_comma token.token.kind then text ++ span_of token else text ++ space ∷ span_of token
 
@@ -51,7 +51,7 @@ kept_text tokens = fold with_token [] tokens
 abbrev pub text_of_target : Option Placed → Option (List ℕ)
 text_of_target target = option_map text_of target
 
--- under what programs run that an access lets be started, where it has an exec word; a target is seen as its text
+-- under which profile programs run that an access allows to be started, where it has an exec word; a target is seen as its text
 abbrev pub transition_of : Access → Option (List ℕ) → Option Transition
 transition_of access target = elim access.word [
   | None ↦ None
@@ -62,7 +62,7 @@ transition_of access target = elim access.word [
 abbrev pub link_of : Access → Option (List ℕ) → Option (List ℕ)
 link_of access target = elim access.word [ None ↦ target | Some word ↦ None ]
 
--- The rank of all exec rules of a token's patterns, where that goes by the token: in language 4, where it is plain if each of them is.
+-- The rank of all exec rules of a token's patterns, where it depends on the token: in language 4, where it is plain if each of them is.
 abbrev pub token_rank : Language → List (List ℕ) → Option Rank
 token_rank Three patterns = None
 token_rank Four patterns = Some (if list_all is_plain patterns then Plain else Loose)
@@ -113,11 +113,11 @@ other_rule qualifiers tokens = Other (record { text = kept_text tokens; owner = 
 abbrev pub every_file : List ℕ
 every_file = codes "/{**,}"
 
--- of a rule that lets all, what is kept: its word
+-- what is kept of a rule `all`: its word
 abbrev pub kept_of_all : Qualifiers → Placed → Rule
 kept_of_all qualifiers word = Other (record { text = text_of word; owner = qualifiers.owner; deny = qualifiers.deny; audit = qualifiers.audit })
 
--- what it lets of all files
+-- the rule for the access letters of all files
 abbrev pub letters_of_all : Qualifiers → Rule
 letters_of_all qualifiers = OfFile (record {
   pattern = every_file;
@@ -130,7 +130,7 @@ letters_of_all qualifiers = OfFile (record {
   audit = qualifiers.audit;
 })
 
--- how a program is started of which no other rule says it
+-- the rule for starting programs for which no other rule says how
 abbrev pub exec_of_all : Qualifiers → Rule
 exec_of_all qualifiers = OfFile (record {
   pattern = every_file;
@@ -143,12 +143,12 @@ exec_of_all qualifiers = OfFile (record {
   audit = qualifiers.audit;
 })
 
--- the five rules that one which lets all stands for
+-- the five rules that a rule `all` stands for
 abbrev pub rules_of_all : Qualifiers → Placed → List Rule
 rules_of_all qualifiers word =
     kept_of_all qualifiers word ∷ letters_of_all qualifiers ∷ exec_of_all qualifiers ∷ cap_rule qualifiers all_capabilities ∷ net_rule qualifiers all_sockets ∷ []
 
--- the rules that a written one makes: a file rule makes one for each of its patterns, one that lets all makes five, any other makes one
+-- the rules that a written one makes: a file rule makes one for each of its patterns, the rule `all` makes five, any other makes one
 abbrev pub rules_of_rule : Language → List Variable → WrittenRule → List Rule
 rules_of_rule language variables (OnFile qualifiers pattern access target) =
     file_rules language qualifiers access target (patterns_at variables pattern)

@@ -1,4 +1,4 @@
--- What the law on patterns speaks of: rules whose patterns read.
+-- Definitions for the law on patterns: rules whose patterns read.
 use Rattle.std.specs.List.{All}
 use Rattle.aa_profile_data.specs.ConflictLaws.{HasReadPattern}
 use Rattle.aa_profile_data.specs.declared.profile.Child.{Child}
@@ -8,6 +8,6 @@ use Rattle.aa_profile_data.specs.declared.profile.Profile.{Profile}
 abbrev pub ChildHasReadPatterns : Child → Type 0
 ChildHasReadPatterns child = All HasReadPattern child.rules
 
--- so do those of a profile, and of its children and hats
+-- the patterns of the rules of a profile, and of its children and hats, read
 abbrev pub HasReadPatterns : Profile → Type 0
 HasReadPatterns profile = All HasReadPattern profile.rules × All ChildHasReadPatterns profile.children

@@ -1,4 +1,5 @@
--- The first block of a file, in language 4, whose exec rules have more states than they may: a profile, or a child or hat (docs/commands.md, "Limits").
+-- The first block of a file, in language 4, whose exec rules have more states than the limit: a profile, or a child or hat (docs/commands.md,
+-- "Limits").
 use Rattle.std.specs.Prelude.{if◌then◌else◌, List, [], ◌∷◌, map, Option, None, Some}
 use Rattle.std.specs.Option.{option_map}
 use Rattle.aa_text_tokens.specs.Splicing.{Placed}
@@ -36,11 +37,11 @@ many_in_profiles (written ∷ rest) (profile ∷ profiles) = elim (many_in_profi
   | None ↦ many_in_profiles rest profiles
 ]
 
--- its refusal, at this token; language 3 has no such limit
+-- the refusal of that token, with its place; language 3 has no such limit
 abbrev pub refusal_of_many : Language → List WrittenProfile → List Profile → Option ProfileError
 refusal_of_many Three written profiles = None
 refusal_of_many Four written profiles = option_map (λ token. placed ManyStates (place_of token)) (many_in_profiles written profiles)
 
--- that of the profiles that a file writes
+-- the refusal of the profiles that a file writes
 abbrev pub refusal_of_states : Language → List Variable → List WrittenProfile → Option ProfileError
 refusal_of_states language variables written = refusal_of_many language written (map (profile_of language variables) written)

@@ -1,4 +1,4 @@
-//! The rules that one which lets all stands for.
+//! The rules that the rule `all` stands for.
 
 ghost use Rattle.std.specs.Prelude.{◌≡◌, ◌++◌, IfOk, OnOk};
 ghost use Rattle.aa_text_tokens.specs.SeenSplicedTokens.{seen_spliced};
@@ -20,12 +20,12 @@ fn every_file(alloc: Global) -> Result<Pattern, AllocError>
 {
     match Pattern::read(alloc, b"/{**,}") {
         Ok(pattern) => Ok(pattern),
-        // It reads, so memory alone can be wanting.
+        // The text reads as a pattern, so only memory can run out.
         Err(_) => Err(AllocError),
     }
 }
 
-// What is kept of a rule that lets all: its word.
+// What is kept of a rule `all`: its word.
 fn kept_of_all(alloc: Global, qualifiers: Qualifiers, word: Spliced<'_>) -> Result<Rule, AllocError>
     ensures { IfOk result (λ rule. rule ≡ kept_of_all qualifiers (seen_spliced word.entry)) }
 {
@@ -37,7 +37,7 @@ fn kept_of_all(alloc: Global, qualifiers: Qualifiers, word: Spliced<'_>) -> Resu
     }))
 }
 
-// What it lets of all files.
+// The rule for the access letters of all files.
 fn letters_of_all(alloc: Global, qualifiers: Qualifiers) -> Result<Rule, AllocError>
     ensures { IfOk result (λ rule. rule ≡ letters_of_all qualifiers) }
 {
@@ -54,7 +54,7 @@ fn letters_of_all(alloc: Global, qualifiers: Qualifiers) -> Result<Rule, AllocEr
     }))
 }
 
-// How a program is started of which no other rule says it.
+// The rule for starting programs for which no other rule says how.
 fn exec_of_all(alloc: Global, qualifiers: Qualifiers) -> Result<Rule, AllocError>
     ensures { IfOk result (λ rule. rule ≡ exec_of_all qualifiers) }
 {
@@ -74,7 +74,7 @@ fn exec_of_all(alloc: Global, qualifiers: Qualifiers) -> Result<Rule, AllocError
     }))
 }
 
-/// Puts the rules that one which lets all stands for behind others.
+/// Appends the five rules that a rule `all` stands for.
 ///
 /// # Errors
 ///

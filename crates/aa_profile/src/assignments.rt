@@ -34,7 +34,7 @@ fn texts<'a>(alloc: Global, tokens: &[Spliced<'a>]) -> Result<Vec<&'a [u8]>, All
     Ok(texts)
 }
 
-// Does what an assignment says. The caller knows the place of a refusal.
+// Executes an assignment. The caller knows the place of a refusal.
 fn assign(
     alloc: Global,
     variables: &mut Variables,
@@ -53,7 +53,7 @@ fn assign(
     }
 }
 
-/// The variables after assignments in order, whatever these name.
+/// The variables after assignments in order, without checks of the names in their values.
 ///
 /// # Errors
 ///
@@ -113,7 +113,7 @@ fn first_undefined_name(
     }
 }
 
-// Whether each name in a file is that of a variable.
+// Refuses a file where a name in it is that of no variable.
 fn check_names(
     variables: &Variables,
     assignments: &[Assignment<'_>],
@@ -140,7 +140,7 @@ fn first_place(name: &[u8], assignments: &[Assignment<'_>]) -> Option<Place>
     None
 }
 
-// Whether no variable leads to itself.
+// Refuses variables of which one leads to itself.
 fn check_cycles(variables: &Variables, assignments: &[Assignment<'_>]) -> Result<(), ProfileError>
     ensures ok { OnOk result (cycle variables.now (map seen_assignment assignments.now) ≡ None) }
     ensures refused { IsRefusal (cycle variables.now (map seen_assignment assignments.now)) result }

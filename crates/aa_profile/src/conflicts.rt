@@ -35,8 +35,8 @@ fn pattern_of(rule: &WrittenRule<'_>) -> Option<Place>
     }
 }
 
-// Goes over a written rule on the way to the first conflict, which stands `on` rules on, if there is one. Tells the place of its pattern where the
-// conflict stands in it.
+// Passes a written rule on the way to the first conflict, which is the rule `on` rules further, if there is one. Returns the place of its pattern
+// where it makes that rule.
 fn pass(
     language: Language,
     table: &mut ExpansionTable<'_>,
@@ -59,7 +59,7 @@ fn pass(
     Ok(None)
 }
 
-// The place of the first pattern of written rules that makes one which conflicts with one before it. `rules` are those that they make.
+// The place of the first pattern of written rules that makes a rule which conflicts with one before it. `rules` are those that they make.
 fn conflict_in_rules(
     alloc: Global,
     language: Language,
@@ -84,7 +84,8 @@ fn conflict_in_rules(
     Ok(None)
 }
 
-// The same of the members of a block. `rules` and `children` are those that they make.
+// The place of the first pattern among the members of a block that makes a rule which conflicts with one before it. `rules` and `children` are those
+// that they make.
 fn conflict_in_members(
     alloc: Global,
     language: Language,
@@ -130,7 +131,7 @@ fn conflict_in_members(
     Ok(None)
 }
 
-// The same of profiles. `profiles` are those that they make.
+// The place of the first pattern of profiles that makes a rule which conflicts with one before it. `profiles` are those that they make.
 fn conflict_in_profiles(
     alloc: Global,
     language: Language,
@@ -165,12 +166,12 @@ fn conflict_in_profiles(
     Ok(None)
 }
 
-/// Whether no two rules conflict of a profile that was made of written ones, or of a child or hat. `profiles` are those that they make.
+/// Refuses profiles of which two rules of the profile, or of one child or hat, conflict. `profiles` are those that the written ones make.
 ///
 /// # Errors
 ///
-/// `ExecConflict` at the first pattern that makes a rule which conflicts with one before it in its profile, child or hat; `Memory`, without a
-/// place: memory ran out.
+/// `ExecConflict` at the first pattern that makes a rule which conflicts with one before it in its profile, child or hat; `Memory`, without a place:
+/// memory ran out.
 pub fn check_conflicts(
     alloc: Global,
     language: Language,

@@ -1,10 +1,10 @@
-//! The profiles of a file, and where they have what they have.
+//! The profiles of a file, and the places where they are written.
 
 use aa_profile_data::Profile;
 use aa_profile_grammar::ProfilePlaces;
 
-/// The profiles that a file spells, and where they have what they have. A profile doesn't know where it is written, so
-/// that two of equal rules are equal wherever they stand: the places lie beside.
+/// The profiles of a file, and the places where they are written. A profile doesn't have its places in itself, so that two rules are equal wherever
+/// they are written.
 #[derive(Drop)]
 pub struct FileProfiles {
     /// The profiles, in the order of the file.

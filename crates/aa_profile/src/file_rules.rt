@@ -1,4 +1,4 @@
-//! File rules, one for each pattern of a written one. They share the text of its target.
+//! File rules, one for each pattern of a written one, all of which share the text of its target.
 
 ghost use Rattle.std.specs.Prelude.{◌≡◌, ◌++◌, IfOk, OnOk, map};
 ghost use Rattle.std.specs.List.{list_all};
@@ -30,7 +30,7 @@ fn text_of_target(
     }
 }
 
-// Under what the programs run that an access lets be started, where it has an exec word.
+// Under which profile the programs run that an access allows to be started, where it has an exec word.
 fn transition_of(
     access: Access,
     target: &Option<SharedBytes>,
@@ -70,7 +70,7 @@ fn are_plain(alloc: Global, patterns: &[Pattern]) -> Result<bool, AllocError>
     Ok(true)
 }
 
-// The rank of all exec rules of a token's patterns, where that goes by the token.
+// The rank of all exec rules of a token's patterns, where it depends on the token.
 fn token_rank(
     alloc: Global,
     language: Language,
@@ -142,7 +142,7 @@ fn file_rule_with(
     }))
 }
 
-// Puts a file rule for each pattern behind others, with the rank by their token.
+// Appends a file rule for each pattern, with the rank by their token.
 fn push_ranked(
     alloc: Global,
     qualifiers: Qualifiers,
@@ -162,7 +162,7 @@ fn push_ranked(
     Ok(())
 }
 
-/// Puts a file rule for each pattern of a token behind others, with ranks as a language says.
+/// Appends a file rule for each pattern of a token, with ranks by the language.
 ///
 /// # Errors
 ///

@@ -8,7 +8,7 @@ ghost use Rattle.aa_profile.specs.Profiles.{kept_text, span_of, with_token};
 use aa_text_tokens::{Spliced, TokenKind};
 use std::alloc::{AllocError, Global};
 
-// Puts a token, as it stands in its file, behind a text.
+// Appends a token, as it is written in its file, to a text.
 fn push_span(text: &mut Vec<u8>, token: Spliced<'_>) -> Result<(), AllocError>
     ensures { OnOk result (text.new.items ≡ text.old.items ++ span_of (seen_spliced token.entry)) }
 {
@@ -22,7 +22,7 @@ fn push_span(text: &mut Vec<u8>, token: Spliced<'_>) -> Result<(), AllocError>
     Ok(())
 }
 
-// Puts a token behind a text, with a blank between them where one belongs.
+// Appends a token to a text, with a blank between them where one belongs.
 fn push_token(text: &mut Vec<u8>, token: Spliced<'_>) -> Result<(), AllocError>
     ensures { OnOk result (text.new.items ≡ with_token text.old.items (seen_spliced token.entry)) }
 {

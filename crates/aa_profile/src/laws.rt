@@ -1,4 +1,4 @@
-//! What holds of files that are read, as laws over the definitions that `read_file_in` is proved to follow, by each language.
+//! Properties of files that are read, as laws over the definitions that `read_file_in` is proved to follow, by each language.
 
 ghost use Rattle.std.specs.Prelude.{◌≡◌, ℕ, List, IfOk, true};
 ghost use Rattle.std.specs.List.{All, list_all};
@@ -32,8 +32,8 @@ pub fn how_profiles_are_named()
         → IfOk (file_profiles_in language files name) (λ profiles. list_all has_distinct_children profiles ≡ true) }
 {}
 
-/// No rule of a file's profiles, or of their children and hats, has a number outside of the tables: its capabilities have numbers below 41, its
-/// domain has one below 44, and its type or protocol one below 9.
+/// Every number in a rule of a file's profiles, or of their children and hats, is in the tables: its capabilities have numbers below 41, its domain
+/// has one below 44, and its type or protocol one below 9.
 pub fn which_numbers_rules_have()
     ensures { (language : Language) (files : List File) (name : List ℕ)
         → IfOk (file_profiles_in language files name) (λ profiles. list_all profile_has_known_numbers profiles ≡ true) }
@@ -53,16 +53,16 @@ pub fn which_patterns_read()
 {}
 
 /// Where all patterns of a file's profiles can be made and read, it is refused for a conflict exactly where two rules of one of its profiles,
-/// children or hats conflict: they lead to different places with one rank, and some path matches both.
+/// children or hats conflict: they lead to different profiles with one rank, and some path matches both.
 pub fn when_conflicts_are_refused()
     ensures { ConflictsAreRefused }
 {
     how_conflicts_are_tested();
 }
 
-/// Of a file that is read there are as many places as profiles, as many for each as it has children and hats, and for each of these and the profile
-/// as many as it has rules. Each rule is one that a rule of its own block makes with the file's variables, and that is written at the place that
-/// stands for it; and each attachment is written where its place says.
+/// A file that is read has as many places as profiles, for each of these as many as it has children and hats, and for each of these and the profile
+/// as many as it has rules. Each rule is one that a rule of its own block makes with the file's variables, and that rule is written at the place;
+/// and each attachment is written at its place.
 pub fn where_rules_are_made()
     ensures { (language : Language) (files : List File) (name : List ℕ) (profiles : List Profile) (places : List ProfilePlaces)
         → file_profiles_in language files name ≡ Ok profiles
@@ -70,10 +70,9 @@ pub fn where_rules_are_made()
         → AreFileMadeAt language files name profiles places }
 {}
 
-/// What language 4 alone has, language 3 never reads: no profile, child or hat of a file that is read by language 3 is
-/// in the mode unconfined, and no rule of one names a stack where it says under what a program runs. The rank of each
-/// rule goes by its own pattern: plain where it has an exec word and the pattern is exact, else loose, and never last. So
-/// what language 4 says by ranks, language 3 says by exactness.
+/// What language 4 alone has, language 3 never reads: no profile, child or hat of a file that is read by language 3 is in the mode unconfined, and
+/// no rule of one names a stack as its target. The rank of each rule depends on its own pattern: plain where it has an exec word and the pattern is
+/// exact, else loose, and never last. So what language 4 says by ranks, language 3 says by exactness.
 pub fn what_language_3_has_not()
     ensures { (files : List File) (name : List ℕ) → IfOk (file_profiles files name) (All IsNarrow) }
 {

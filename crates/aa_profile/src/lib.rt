@@ -1,5 +1,5 @@
-//! Profiles, as files spell them: the reading of a file in phases, the last of which makes profiles of those that files write, with the patterns that
-//! variables make.
+//! Reading AppArmor profiles: from the files by name (`Files` of `aa_text`) to profiles as plain data, with includes, variables and patterns
+//! expanded, or to the first fault with its place. `read_file_in` is the call; a file is read whole, in phases each of which goes over all of it.
 #![tactic(auto)]
 
 mod all_rules;

@@ -1,6 +1,6 @@
 //! Profiles as their files write them, with the patterns that their variables make.
 //!
-//! Each function here goes over its part once, and tells the refusal of the first token of it that makes no pattern.
+//! Each function here goes over its part once, and refuses it at the first token of it that makes no pattern.
 
 ghost use Rattle.std.specs.Prelude.{◌≡◌, ◌≢◌, ◌++◌, ◌∷◌, [], None, Some, IfOk, IfErr, OnOk, true, map};
 ghost use Rattle.aa_text_tokens.specs.SeenSplicedTokens.{seen_spliced};
@@ -70,7 +70,7 @@ fn other_rule(
     }))
 }
 
-// Puts the rules that a written one makes behind others.
+// Appends the rules that a written rule makes.
 #[tactic(auto, using(crate::proofs::AllLemmas::all_fine))]
 fn push_rule(
     alloc: Global,
@@ -125,7 +125,7 @@ fn push_rule(
     Ok(())
 }
 
-// The rules that written ones make.
+// The rules that written rules make.
 fn read_rules(
     alloc: Global,
     language: Language,
@@ -201,7 +201,7 @@ fn read_child(
     })
 }
 
-// Puts what a member of a block makes behind rules or children.
+// Appends what a member of a block makes to the rules or children.
 fn push_member(
     alloc: Global,
     language: Language,
@@ -280,7 +280,7 @@ fn read_profile(
 ///
 /// # Errors
 ///
-/// The refusal of the first token of a pattern of which an expansion makes none, at this token; `Memory`, without a place: memory ran out.
+/// The refusal of the first token that has an expansion which is no pattern, at this token; `Memory`, without a place: memory ran out.
 pub fn read_profiles(
     alloc: Global,
     language: Language,

@@ -31,7 +31,7 @@ use aa_text_tokens::{Spliced, spliced};
 use aa_text_variables::{ExpansionTable, Variables};
 use std::alloc::Global;
 
-// The profiles of a file as it is written, with its variables and the tokens of its patterns, and where they have what they have.
+// The profiles of a file as it is written, with its variables and the tokens of its patterns, and the places where they are written.
 fn read_with(
     alloc: Global,
     language: Language,
@@ -55,7 +55,7 @@ fn read_with(
     Ok(FileProfiles { profiles, places })
 }
 
-// The profiles of a file as it is written, and where they have what they have.
+// The profiles of a file as it is written, and the places where they are written.
 fn read_written(
     alloc: Global,
     language: Language,
@@ -71,11 +71,10 @@ fn read_written(
     read_with(alloc, language, &variables, &patterns, file)
 }
 
-/// The profiles that a file of the handed-in ones spells, read by a language, in its order, and where they have what
-/// they have. A file rule is one rule for each expansion of its pattern, and these share its target and stand at one
-/// place. Variables are put into attachments and patterns alone: names, targets and rules that are kept stay as they
-/// are written. A place is a byte offset in the file, or in one that that includes. Flags that decide nothing come with
-/// the places.
+/// Reads the profiles of the file of that name among `files`, by a language: returns them in the order of the file, with the places where they are
+/// written. A file rule becomes one rule for each expansion of its pattern; these share its target and its place. Variables are expanded in
+/// attachments and patterns alone: names, targets and rules that are kept stay as they are written. A place is a byte offset in the file, or in one
+/// that this includes. Flags that decide nothing are returned with the places. Nothing in the result borrows `files`.
 ///
 /// # Errors
 ///
@@ -86,12 +85,12 @@ fn read_written(
 ///   pattern that names a variable that isn't defined, or doesn't close a name; then `Cycle`, at the first assignment of the first variable
 ///   that leads to itself or to one that does.
 /// - `TooManyRules`, at the attachment or pattern with which the file has more than 16,384, each expansion counted; the word `file` alone is one.
-/// - As `Pattern::read` refuses the first expansion that is no pattern, once its runs of slashes are collapsed; `TooLong` goes by the
-///   bytes before that. It is told at the attachment or pattern.
-/// - `ManyStates`, in language 4, at the token that names the first profile, child or hat whose exec rules, deny rules too, have more than 8,192 states:
-///   different beginnings of their patterns.
-/// - `ExecConflict`, at the first pattern that makes a rule which conflicts with one before it in its profile, child or hat: two allow rules lead
-///   a program to different places with one rank, and some path matches both.
+/// - As `Pattern::read` refuses the first expansion that is no pattern, once its runs of slashes are collapsed; `TooLong` counts the bytes before
+///   that. The place is that of the attachment or pattern.
+/// - `ManyStates`, in language 4, at the token that names the first profile, child or hat whose exec rules, deny rules included, have more than
+///   8,192 states: different beginnings of their patterns.
+/// - `ExecConflict`, at the first pattern that makes a rule which conflicts with one before it in its profile, child or hat: two allow rules lead a
+///   program to different profiles with one rank, and some path matches both.
 /// - `Memory`, without a place: memory ran out.
 pub fn read_file_in(
     alloc: Global,
@@ -114,11 +113,11 @@ pub fn read_file_in(
     read_written(alloc, language, &file)
 }
 
-/// What `read_file_in` gives by language 3.
+/// Reads the profiles of a file as `read_file_in` does, by language 3.
 ///
 /// # Errors
 ///
-/// As `read_file_in`.
+/// As for `read_file_in`.
 pub fn read_file(alloc: Global, files: &Files, name: &[u8]) -> Result<FileProfiles, ProfileError>
     ensures ok { IfOk result (λ read. file_profiles files.now name.now ≡ Ok read.profiles.items) }
     ensures places { IfOk result (λ read. file_places files.now name.now ≡ Some read.places.items) }

@@ -1,4 +1,4 @@
-//! The first block of a file whose exec rules have more states than they may.
+//! The first block of a file whose exec rules have more states than `MOST_EXEC_STATES`.
 
 ghost use Rattle.std.specs.Prelude.{◌≡◌, None, IfOk, OnOk, map};
 ghost use Rattle.std.specs.Option.{option_map};
@@ -14,7 +14,8 @@ use aa_profile_parsing::{Language, ProfileError, ProfileRefusal, place_of, place
 use aa_text_files::Place;
 use std::alloc::{AllocError, Global};
 
-// The place of the token that names the first such child or hat of a block. `children` are those that its members make.
+// The place of the token that names the first child or hat of a block whose exec rules have too many states. `children` are those that its members
+// make.
 fn many_in_members(
     alloc: Global,
     members: &[Member<'_>],
@@ -39,7 +40,7 @@ fn many_in_members(
     Ok(None)
 }
 
-// The place of the token that names the first such block of a profile.
+// The place of the token that names the first block of a profile, its own included, whose exec rules have too many states.
 fn many_in_profile(
     alloc: Global,
     written: &WrittenProfile<'_>,
@@ -53,7 +54,7 @@ fn many_in_profile(
     many_in_members(alloc, &written.members, profile.children.as_slice())
 }
 
-// The place of the token that names the first such block of profiles, each of which makes one of `profiles`.
+// The place of the token that names the first block of profiles whose exec rules have too many states; each written profile makes one of `profiles`.
 fn many_in_profiles(
     alloc: Global,
     written: &[WrittenProfile<'_>],
@@ -76,7 +77,7 @@ fn many_in_profiles(
     Ok(None)
 }
 
-/// Whether the exec rules of no block have more states than they may in language 4: of a profile, or of a child or hat. `profiles` are those that the
+/// In language 4, refuses profiles where the exec rules of a profile, child or hat have more than 8,192 states. `profiles` are those that the
 /// written ones make.
 ///
 /// # Errors

@@ -20,7 +20,7 @@ is_class_of transitions class transition = elim (slice_get transitions class) [ 
 abbrev pub IsNew : List Transition → Transition → Type 0
 IsNew transitions transition = (class : ℕ) → is_class_of transitions class transition ≡ false
 
--- The class of a transition among some, or none where it is none of them.
+-- The class of a transition, or `None` where it is not among these.
 abbrev pub IsClassIn : List Transition → Transition → Option ℕ → Type 0
 IsClassIn transitions transition class =
     MatchOption class (IsNew transitions transition) (λ class. is_class_of transitions class transition ≡ true)
@@ -47,7 +47,7 @@ pub record AreClassesBy (leads : List Lead) (transitions : List Transition) (cla
 abbrev pub AreClassesOfLeads : Classes → List Lead → Type 0
 AreClassesOfLeads classes leads = AreClassesBy leads (seen_transitions classes.transitions.items) classes.classes.items
 
--- Classes of where any rules lead so have become those of where these lead and one rule more.
+-- Classes of the leads of any rules with this rank become those of these rules and one more.
 abbrev pub AddsRule : Rank → Rule → Classes → Classes → Type 0
 AddsRule rank rule before after =
     (rules : List Rule) → AreClassesOfLeads before (leads rank rules) → AreClassesOfLeads after (leads rank (rules ++ rule ∷ []))

@@ -6,7 +6,7 @@ use Rattle.aa_profile_data.specs.Conflicts.{Lead, same_transition}
 use Rattle.aa_profile_data.specs.declared.profile.Rank.{Rank}
 use Rattle.aa_profile_data.specs.declared.profile.Rule.{Rule}
 
--- Two rules lead to different places with one rank, and some path matches both.
+-- Two rules lead to different profiles with one rank, and some path matches both.
 pub record ConflictBy (rank : Rank) (one other : Rule) : Type 0 where
   pub here : Lead
   pub there : Lead
@@ -15,7 +15,7 @@ pub record ConflictBy (rank : Rank) (one other : Rule) : Type 0 where
   pub differ : same_transition here.transition there.transition ≡ false
   pub overlap : overlaps here.pattern there.pattern ≡ true
 
--- The rule at a place among some conflicts so with an earlier one.
+-- The rule at a place conflicts with an earlier one with this rank.
 pub record ConflictsAt (rank : Rank) (rules : List Rule) (place : ℕ) : Type 0 where
   pub before : ℕ
   pub earlier : before < place

@@ -1,4 +1,4 @@
--- Where rules lead with one rank, and at which places among the rules these stand.
+-- Leads of one rank, and the places of their rules.
 use Rattle.std.specs.Prelude.{ℕ, ◌+◌, List, [], ◌∷◌, Option, None, Some, if◌then◌else◌, map}
 use Rattle.std.specs.List.{filter_map}
 use Rattle.aa_profile_conflicts.specs.declared.lead.Lead.{Lead as CodeLead}
@@ -11,15 +11,15 @@ use Rattle.aa_profile_data.specs.declared.profile.Rule.{Rule}
 abbrev pub seen_lead : CodeLead → Lead
 seen_lead lead = record { pattern = lead.pattern.now; rank = lead.rank; transition = lead.transition.now }
 
--- where a rule leads, if with this rank
+-- the lead of a rule, if it has one with this rank
 abbrev pub lead_by : Rank → Rule → Option Lead
 lead_by rank rule = elim (lead_of rule) [ None ↦ None | Some lead ↦ if same_rank lead.rank rank then Some lead else None ]
 
--- where some rules lead so, in their order
+-- the leads of some rules with this rank, in their order
 abbrev pub leads : Rank → List Rule → List Lead
 leads rank rules = filter_map (lead_by rank) rules
 
--- by which patterns
+-- the patterns of these leads
 abbrev pub patterns_by : Rank → List Rule → List (List ℕ)
 patterns_by rank rules = map (λ lead. lead.pattern) (leads rank rules)
 
@@ -28,12 +28,12 @@ pub record Placed : Type 0 where
   pub place : ℕ
   pub lead : Lead
 
--- where some rules lead so, each with its place, of which the first rule has this one
+-- the leads of some rules with this rank, each with its place, of which the first rule has this one
 abbrev pub placed_from : Rank → ℕ → List Rule → List Placed
 placed_from rank first [] = []
 placed_from rank first (rule ∷ rules) =
     elim (lead_by rank rule) [ None ↦ placed_from rank (first + 1) rules | Some lead ↦ record { place = first; lead = lead } ∷ placed_from rank (first + 1) rules ]
 
--- the place of one
+-- the place of a lead
 abbrev pub place_of : Placed → ℕ
 place_of placed = placed.place

@@ -1,4 +1,4 @@
-//! Classes of leads: those have one class whose transitions are the same.
+//! Classes of leads: two leads are of one class where their transitions are the same.
 
 ghost use Rattle.std.specs.Prelude.{◌≡◌, ◌++◌, ◌∷◌, [], List, IfOk, OnOk};
 ghost use Rattle.aa_profile_conflicts.specs.Classes.{AddsRule, AreClassesOfLeads, IsClassIn, is_class_of, seen_transitions};
@@ -14,7 +14,7 @@ use std::alloc::{AllocError, Global};
 pub struct Classes<'a> {
     /// The different transitions.
     pub transitions: Vec<&'a Transition>,
-    /// The class of each lead: the place of its transition among these.
+    /// The class of each lead: the index of its transition in `transitions`.
     pub classes: Vec<u32>,
 }
 
@@ -28,7 +28,7 @@ fn is_class_of(transitions: &[&Transition], class: usize, transition: &Transitio
     }
 }
 
-// The class of a transition, or none where it is none of those so far.
+// The class of a transition, or `None` where it is not among these.
 fn class_among(transitions: &[&Transition], transition: &Transition) -> Option<usize>
     ensures { IsClassIn (seen_transitions transitions.now) transition.now result }
 {
@@ -40,7 +40,8 @@ fn class_among(transitions: &[&Transition], transition: &Transition) -> Option<u
     None
 }
 
-// The same. The class of the lead before is asked first, since the rules that one written rule makes share their transition.
+// The class of a transition, or `None` where it is not among these. The class of the lead before is compared first, since the rules that one written
+// rule makes share their transition.
 fn class_of(transitions: &[&Transition], classes: &[u32], transition: &Transition) -> Option<usize>
     ensures { IsClassIn (seen_transitions transitions.now) transition.now result }
 {
@@ -55,7 +56,7 @@ fn class_of(transitions: &[&Transition], classes: &[u32], transition: &Transitio
     }
 }
 
-// One class more behind the others.
+// Appends a class.
 fn push_class(classes: &mut Vec<u32>, class: usize) -> Result<(), AllocError>
     ensures { OnOk result (classes.new.items ≡ classes.old.items ++ class ∷ []) }
 {
@@ -67,7 +68,7 @@ fn push_class(classes: &mut Vec<u32>, class: usize) -> Result<(), AllocError>
 }
 
 impl<'a> Classes<'a> {
-    // One lead more, by its transition.
+    // Adds a lead, by its transition.
     fn add(&mut self, transition: &'a Transition) -> Result<(), AllocError>
         ensures { OnOk result ((leads : List Lead) (lead : Lead)
             → lead.transition ≡ transition.now
@@ -84,7 +85,7 @@ impl<'a> Classes<'a> {
         }
     }
 
-    // Where a rule leads more, if it leads somewhere with this rank.
+    // Adds the lead of a rule, if it has one with this rank.
     fn add_rule(&mut self, rank: Rank, rule: &'a Rule) -> Result<(), AllocError>
         ensures { OnOk result (AddsRule rank rule.now self.old self.new) }
     {
@@ -95,7 +96,7 @@ impl<'a> Classes<'a> {
     }
 }
 
-/// The classes of where some rules lead with this rank.
+/// The classes of the leads that some rules have with this rank.
 ///
 /// # Errors
 ///

@@ -17,7 +17,7 @@ use aa_glob_pattern::how_overlaps_are_tested;
 use aa_profile_data::{Rank, Rule};
 use std::alloc::{AllocError, Global};
 
-// The same with the pattern of a rule more, if it leads somewhere with this rank.
+// Adds the pattern of a rule, if it has a lead with this rank.
 fn with_lead(
     builder: AutomatonBuilder,
     alloc: Global,
@@ -34,7 +34,7 @@ fn with_lead(
     }
 }
 
-// The automaton of the patterns by which some rules lead somewhere with this rank.
+// The automaton of the patterns of the leads that some rules have with this rank.
 fn automaton_of(alloc: Global, rank: Rank, rules: &[Rule]) -> Result<Automaton, AllocError>
     ensures { IfOk result (λ automaton. IsAutomatonOf automaton (patterns_by rank rules.now)) }
 {
@@ -45,7 +45,7 @@ fn automaton_of(alloc: Global, rank: Rank, rules: &[Rule]) -> Result<Automaton, 
     Ok(builder.finish())
 }
 
-// The place of a rule by its place among those that lead somewhere with this rank.
+// The index of a rule by its index among those that have a lead with this rank.
 fn place_of(rank: Rank, rules: &[Rule], lead: usize) -> Option<usize>
     ensures { result ≡ option_map place_of (slice_get (placed_from rank 0 rules.now) lead) }
 {
@@ -65,8 +65,8 @@ fn place_of(rank: Rank, rules: &[Rule], lead: usize) -> Option<usize>
     None
 }
 
-// The place of the first rule that conflicts with one before it, both with this rank. No automaton is made where fewer than two transitions stand
-// behind them.
+// The index of the first rule that conflicts with one before it, both with this rank. No automaton is built where the leads have fewer than two
+// transitions.
 fn first_by(alloc: Global, rank: Rank, rules: &[Rule]) -> Result<Option<usize>, AllocError>
     ensures { IfOk result (λ found. IsLeast found (ConflictsAt rank rules.now)) }
 {
@@ -82,7 +82,7 @@ fn first_by(alloc: Global, rank: Rank, rules: &[Rule]) -> Result<Option<usize>, 
     }
 }
 
-// The lesser of two places, where there are any.
+// The lesser of two indices, where there are any.
 fn lesser(one: Option<usize>, other: Option<usize>) -> Option<usize>
     ensures { result ≡ lesser one other }
 {
@@ -93,9 +93,9 @@ fn lesser(one: Option<usize>, other: Option<usize>) -> Option<usize>
     }
 }
 
-/// The place of the first of some rules that conflicts with one before it: both are allow rules on files with an exec word, with one rank, they
-/// lead to different places, and some path matches both. None where no two conflict. For each rank one automaton is made of the patterns of such
-/// rules; none where fewer than two transitions stand behind them.
+/// The index of the first of some rules that conflicts with one before it: both are allow rules on files with an exec word, with one rank, they lead
+/// to different profiles, and some path matches both. `None` where no two conflict. For each rank one automaton is built of the patterns of such
+/// rules, or none where they have fewer than two transitions.
 ///
 /// # Errors
 ///

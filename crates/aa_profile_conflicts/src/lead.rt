@@ -1,4 +1,4 @@
-//! Where rules lead the programs that they let be started.
+//! Leads: under which profile the programs run that a rule allows to be started.
 
 ghost use Rattle.std.specs.Prelude.{◌≡◌};
 ghost use Rattle.std.specs.Option.{option_map};
@@ -13,13 +13,13 @@ use aa_profile_data::{Rank, Rule, Transition};
 pub struct Lead<'a> {
     /// The pattern.
     pub pattern: &'a Pattern,
-    /// Before which others that decides.
+    /// Before which other leads it decides.
     pub rank: Rank,
-    /// Under what they run then.
+    /// Under which profile they run then.
     pub transition: &'a Transition,
 }
 
-// Where a rule leads: nowhere, unless it is an allow rule on files with an exec word.
+// The lead of a rule; only an allow rule on files with an exec word has one.
 fn lead_of(rule: &Rule) -> Option<Lead<'_>>
     ensures { option_map seen_lead result ≡ lead_of rule.now }
 {
@@ -39,7 +39,7 @@ fn lead_of(rule: &Rule) -> Option<Lead<'_>>
     }
 }
 
-/// Where a rule leads, if with this rank.
+/// The lead of a rule, if it has one with this rank.
 pub fn lead_by(rank: Rank, rule: &Rule) -> Option<Lead<'_>>
     ensures { option_map seen_lead result ≡ lead_by rank rule.now }
 {

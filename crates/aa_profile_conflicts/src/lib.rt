@@ -1,4 +1,4 @@
-//! Which rules of a profile conflict, and whether these are too many to look for conflicts.
+//! Which exec rules of a profile conflict, and whether these rules are too many to look for conflicts.
 #![tactic(auto)]
 
 mod classes;

@@ -14,7 +14,7 @@ use std::alloc::{AllocError, Global};
 /// How many states the exec rules of a profile, child or hat may have in language 4 (docs/commands.md, "Limits").
 pub const MOST_EXEC_STATES: usize = 8_192;
 
-// The pattern of a rule, if that covers the start of programs.
+// The pattern of a rule, if it covers the start of programs.
 fn exec_pattern(rule: &Rule) -> Option<&Pattern>
     ensures { option_map (λ pattern. pattern.now) result ≡ exec_pattern rule.now }
 {
@@ -24,7 +24,7 @@ fn exec_pattern(rule: &Rule) -> Option<&Pattern>
     }
 }
 
-// The same with the pattern of a rule more, if that covers the start of programs.
+// Adds the pattern of a rule, if it covers the start of programs.
 fn with_exec_pattern(
     builder: AutomatonBuilder,
     alloc: Global,
@@ -40,8 +40,8 @@ fn with_exec_pattern(
     }
 }
 
-// Whether they may have more states than they may, by the bytes of their patterns alone: a text has at most two beginnings for each of its bytes, and
-// two more.
+// Whether rules may have more states than `MOST_EXEC_STATES`, by the lengths of their patterns alone: a pattern has at most two beginnings for each
+// of its bytes, and two more.
 fn may_have_many_states(rules: &[Rule]) -> bool
     ensures { result ≡ nat_lt most_exec_states (most_states (exec_patterns rules.now)) }
 {
@@ -61,9 +61,9 @@ fn may_have_many_states(rules: &[Rule]) -> bool
     false
 }
 
-/// Whether the patterns of some rules that cover the start of programs, deny rules too, have more than `MOST_EXEC_STATES` different beginnings. The
-/// look for conflicts takes up to the square of their number. Where their bytes are few nothing is built, and else no more than up to the pattern with
-/// which there are more.
+/// Whether the patterns of some rules that cover the start of programs, deny rules included, have more than `MOST_EXEC_STATES` different beginnings;
+/// looking for conflicts takes time up to the square of their number. Where the patterns are short nothing is built, and else no more than up to the
+/// pattern with which there are more.
 ///
 /// # Errors
 ///

@@ -39,15 +39,15 @@ MAP = 32
 abbrev pub EXEC : ℕ
 EXEC = 64
 
--- the bit of each letter that is told, the letter of exec among them
+-- the bit of each letter that is printed, the letter of exec included
 abbrev pub told_bit : ℕ → Option ℕ
 told_bit letter = if letter == exec_letter then Some EXEC else bit_of letter
 
--- sets of the letters that a question may ask for are below this one
+-- sets of the letters that a question may ask for are less than this
 abbrev pub asked_letters : ℕ
 asked_letters = 64
 
--- sets of the known letters are below this one
+-- sets of the known letters are less than this
 abbrev pub all_letters : ℕ
 all_letters = 128
 
@@ -59,7 +59,7 @@ common a b = bit_and a b
 abbrev pub union : ℕ → ℕ → ℕ
 union a b = bit_or a b
 
--- what the first set has and the second lacks
+-- what the first set has and the second doesn't
 abbrev pub without : ℕ → ℕ → ℕ
 without a b = bits_without 8 a b
 
@@ -67,7 +67,7 @@ without a b = bits_without 8 a b
 abbrev pub has : ℕ → ℕ → Bool
 has set bit = bit_and set bit == bit
 
--- the needs that an access covers: each letter covers itself, and `w` covers `a` too
+-- the needs that an access covers: each letter covers itself, and `w` also `a`
 abbrev pub covered : ℕ → ℕ
 covered access = if has access WRITE then union access APPEND else access
 

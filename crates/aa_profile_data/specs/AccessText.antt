@@ -1,5 +1,5 @@
--- The access of a file rule as a list of parts, and the text that they are written as (apparmor.d(5), "File Permission Access Modes" and "Execute
--- Rules"): what the laws on accesses speak of.
+-- The access of a file rule as a list of parts, and the text of these (apparmor.d(5), "File Permission Access Modes" and "Execute Rules"):
+-- definitions for the laws on accesses.
 use Rattle.std.specs.Prelude.{◌≡◌, ℕ, Bool, true, false, not, List, [], ◌∷◌, filter_map, flat_map, fold, Option, None, Some, is_some}
 use Rattle.std.specs.List.{list_all, list_any}
 use Rattle.aa_profile_data.specs.Access.{told_bit, union}
@@ -17,7 +17,7 @@ abbrev pub text_of_part : AccessPart → List ℕ
 text_of_part (Letter letter) = letter ∷ []
 text_of_part (Word word) = (row word).text
 
--- parts are written one behind the other, with nothing between them
+-- parts are written one after the other, with nothing between them
 abbrev pub text_of_parts : List AccessPart → List ℕ
 text_of_parts parts = flat_map text_of_part parts
 
@@ -48,7 +48,7 @@ abbrev pub first_of : List ExecWord → Option ExecWord
 first_of [] = None
 first_of (first ∷ more) = Some first
 
--- some word is another than the first
+-- some word differs from the first
 abbrev pub differ : List ExecWord → Bool
 differ [] = false
 differ (first ∷ more) = list_any (λ word. not (same_word first word)) more
@@ -57,6 +57,6 @@ differ (first ∷ more) = list_any (λ word. not (same_word first word)) more
 abbrev pub said : List AccessPart → WrittenAccess
 said parts = record { letters = record { 0 = letters_among parts }; word = first_of (words_among parts); differs = differ (words_among parts) }
 
--- a text is written of these parts, which are all known
+-- a text consists of these parts, which are all known
 abbrev pub IsWrittenOf : List ℕ → List AccessPart → Type 0
 IsWrittenOf text parts = (list_all is_known parts ≡ true) × (text_of_parts parts ≡ text)

@@ -2,7 +2,7 @@
 use Rattle.std.specs.Prelude.{ℕ, List, [], ◌∷◌, Option, codes, slice_get}
 use Rattle.aa_profile_data.specs.TableNames.{number_in}
 
--- Their names, each at its number: capabilities(7) names them, and the kernel numbers them so (linux/capability.h).
+-- Their names, each at the index that is its number: capabilities(7) names them, and the kernel numbers them so (linux/capability.h).
 abbrev pub names : List (List ℕ)
 names =
     codes "chown" ∷ codes "dac_override" ∷ codes "dac_read_search" ∷ codes "fowner" ∷ codes "fsetid" ∷

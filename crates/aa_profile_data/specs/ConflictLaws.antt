@@ -1,4 +1,4 @@
--- What holds of rules whose patterns were read: when two conflict, and when none of some do.
+-- Properties of rules whose patterns were read: when two conflict, and when no two of some do.
 use Rattle.std.specs.Prelude.{◌≡◌, ℕ, ◌<◌, List, Ok, Some, slice_get}
 use Rattle.aa_glob_syntax.specs.Reading.{items_of, reading}
 use Rattle.aa_profile_data.specs.Conflicts.{Conflict}

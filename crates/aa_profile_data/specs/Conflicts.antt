@@ -1,5 +1,5 @@
--- Rules that conflict (docs/policy.md, "Rules that conflict"): two allow rules of one profile or child lead a program to different places, with one
--- rank, and some path matches both.
+-- Rules that conflict (docs/policy.md, "Rules that conflict"): two allow rules of one profile or child lead a program to different profiles, with
+-- one rank, and some path matches both.
 use Rattle.std.specs.Prelude.{◌≡◌, ℕ, suc, Bool, true, false, not, ◌&&◌, if◌then◌else◌, List, [], ◌∷◌, ◌++◌, Option, None, Some, is_none}
 use Rattle.std.specs.List.{list_all, list_any}
 use Rattle.std.specs.Option.{option_map}
@@ -15,7 +15,7 @@ use Rattle.aa_profile_data.specs.declared.profile.Rule.{Rule}
 use Rattle.aa_profile_data.specs.declared.profile.Rule.TheVariants.{Cap, File, Net, Other}
 use Rattle.aa_profile_data.specs.declared.profile.Transition.{Transition}
 
--- two transitions name the same target, or both none
+-- two transitions name the same target, or neither names one
 abbrev pub same_target : Option (List ℕ) → Option (List ℕ) → Bool
 same_target None None = true
 same_target (Some one) (Some other) = bytes_eq one other
@@ -26,13 +26,13 @@ same_target (Some one) None = false
 abbrev pub same_transition : Transition → Transition → Bool
 same_transition one other = same_word one.word other.word && same_target one.target other.target
 
--- Where a rule leads the programs whose paths its pattern matches: by which pattern, with which rank, and under what they run then.
+-- Where a rule leads the programs whose paths its pattern matches: by which pattern, with which rank, and under which profile they then run.
 pub record Lead : Type 0 where
   pub pattern : List ℕ
   pub rank : Rank
   pub transition : Transition
 
--- an allow rule on files leads somewhere where it has an exec word
+-- the lead of a rule: only an allow rule on files with an exec word has one
 abbrev pub lead_of : Rule → Option Lead
 lead_of (File rule) =
     if rule.deny
@@ -42,7 +42,7 @@ lead_of (Cap rule) = None
 lead_of (Net rule) = None
 lead_of (Other rule) = None
 
--- two lead to different places with one rank, and some path matches both
+-- two leads have one rank and different transitions, and some path matches both
 abbrev pub lead_apart : Lead → Lead → Bool
 lead_apart one other =
     same_rank one.rank other.rank && (not (same_transition one.transition other.transition) && overlaps one.pattern other.pattern)
@@ -54,7 +54,7 @@ conflict one other = elim (lead_of one) [
   | Some here ↦ elim (lead_of other) [ None ↦ false | Some there ↦ lead_apart here there ]
 ]
 
--- the same, said of texts
+-- two rules conflict, as a relation
 pub record Conflict (one other : Rule) : Type 0 where
   pub here : Lead
   pub there : Lead
@@ -73,10 +73,10 @@ first_conflict before (rule ∷ rules) = if list_any (conflict rule) before then
 abbrev pub agree : List Rule → Bool
 agree rules = is_none (first_conflict [] rules)
 
--- nor do any of a child or a hat
+-- no two rules of a child or a hat conflict
 abbrev pub child_agrees : Child → Bool
 child_agrees child = agree child.rules
 
--- nor do any of a profile, or of one of its children and hats
+-- no two rules of a profile, or of one of its children and hats, conflict
 abbrev pub profile_agrees : Profile → Bool
 profile_agrees profile = agree profile.rules && list_all child_agrees profile.children

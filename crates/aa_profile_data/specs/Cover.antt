@@ -20,12 +20,12 @@ has_number set number = bit_at set number == 1
 abbrev pub covers_capability : ℕ → CapRule → Bool
 covers_capability number rule = has_number rule.caps number
 
--- a rule's domain covers one; a missing one stands for all
+-- a rule's domain covers a domain; a missing one covers all
 abbrev pub covers_domain : Option ℕ → ℕ → Bool
 covers_domain None domain = true
 covers_domain (Some own) domain = own == domain
 
--- a rule's kind covers a type in a domain; a missing one stands for all, and a protocol for its type in the domains that have protocols
+-- a rule's kind covers a type in a domain; a missing one covers all, and a protocol covers its type in the domains that have protocols
 abbrev pub covers_kind : Option ℕ → ℕ → ℕ → Bool
 covers_kind None domain kind = true
 covers_kind (Some own) domain kind = type_of own == kind && (not (is_protocol own) || has_protocols domain)

@@ -2,7 +2,7 @@
 use Rattle.std.specs.Prelude.{ℕ, Bool, ◌==◌, ◌||◌, List, [], ◌∷◌, Option, codes, slice_get}
 use Rattle.aa_profile_data.specs.TableNames.{number_in}
 
--- Their names, each at its number: those of apparmor.d(5), "Network Rules", by this project's own numbers.
+-- Their names, each at the index that is its number: those of apparmor.d(5), "Network Rules", by numbers of this table.
 abbrev pub names : List (List ℕ)
 names =
     codes "unix" ∷ codes "inet" ∷ codes "ax25" ∷ codes "ipx" ∷ codes "appletalk" ∷ codes "netrom" ∷
@@ -20,6 +20,6 @@ domain_number name = number_in names name
 abbrev pub domain_name : ℕ → Option (List ℕ)
 domain_name number = slice_get names number
 
--- the domains in which protocols stand: `inet` and `inet6`
+-- the domains that have protocols: `inet` and `inet6`
 abbrev pub has_protocols : ℕ → Bool
 has_protocols domain = domain == 1 || domain == 9

@@ -7,7 +7,7 @@ use Rattle.aa_profile_data.specs.declared.exec_word.ExecWord.{ExecWord}
 use Rattle.aa_profile_data.specs.declared.exec_word.ExecWord.TheVariants.{Child, ChildInherit, ChildInheritScrub, ChildScrub, ChildUnconfined, ChildUnconfinedScrub, Inherit, Profile, ProfileInherit, ProfileInheritScrub, ProfileScrub, ProfileUnconfined, ProfileUnconfinedScrub, Unconfined, UnconfinedScrub}
 use Rattle.aa_profile_data.specs.declared.exec_word.Row.{Row as CodeRow}
 
--- What an exec word is: its text; where it leads; where it leads if there is no such profile, child or hat; and whether the program's environment
+-- What an exec word means: its text; where it leads; where it leads if there is no such profile, child or hat; and whether the program's environment
 -- is scrubbed, wherever it leads.
 pub record Row : Type 0 where
   pub text : List ℕ
@@ -19,8 +19,8 @@ pub record Row : Type 0 where
 abbrev pub seen_row : CodeRow → Row
 seen_row r = record { text = r.text.now; destination = r.destination; fallback = r.fallback; scrubs = r.scrubs }
 
--- The one table of exec words. Where it leads stands in the letter before `x`, or before that the fallback's; what is written with a capital
--- scrubs.
+-- The one table of exec words. The letter before `x` says where the word leads, or the one before that where a fallback follows; one written with a
+-- capital scrubs.
 abbrev pub row : ExecWord → Row
 row Inherit = record { text = codes "ix"; destination = to.Inherit; fallback = None; scrubs = false }
 row Unconfined = record { text = codes "ux"; destination = to.Unconfined; fallback = None; scrubs = false }
@@ -44,7 +44,7 @@ words =
     Inherit ∷ Unconfined ∷ UnconfinedScrub ∷ Profile ∷ ProfileScrub ∷ Child ∷ ChildScrub ∷ ProfileInherit ∷ ProfileInheritScrub ∷ ChildInherit ∷ ChildInheritScrub ∷ ProfileUnconfined
     ∷ ProfileUnconfinedScrub ∷ ChildUnconfined ∷ ChildUnconfinedScrub ∷ []
 
--- the one of these exec words that a text is
+-- the exec word among these whose text this is
 abbrev pub word_among : List ExecWord → List ℕ → Option ExecWord
 word_among words text = find (λ word. bytes_eq (row word).text text) words
 

@@ -1,4 +1,4 @@
--- The rules on files among the rules of a profile: their patterns, and where they stand.
+-- The rules on files among the rules of a profile: their patterns and their places.
 use Rattle.std.specs.Prelude.{List, [], ℕ, ◌+◌, ◌∷◌}
 use Rattle.aa_profile_data.specs.declared.profile.Rule.{Rule}
 use Rattle.aa_profile_data.specs.declared.profile.Rule.TheVariants.{Cap, File, Net, Other}

@@ -15,7 +15,7 @@ full_name (b ∷ bs) =
     let rest = full_name bs in
     if begins_with (codes "//") (b ∷ bs) then record { profile = []; child = Some (drop 2 (b ∷ bs)) } else record { profile = b ∷ rest.profile; child = rest.child }
 
--- a full name whose parts are names: that of a profile that isn't within another, and where it names a child or a hat, that one's
+-- a full name whose parts are names: that of a profile that isn't within another, and that of the child or hat, if it names one
 abbrev pub are_names : FullName → Bool
 are_names name = elim name.child [
   | None ↦ is_top_name name.profile

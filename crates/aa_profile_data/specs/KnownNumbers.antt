@@ -1,7 +1,7 @@
--- Numbers that stand in the tables.
+-- Numbers that are in the tables.
 use Rattle.std.specs.Prelude.{ℕ, ◌^◌, Bool, true, nat_lt, Option, None, Some}
 
--- a set, in which the bit of each number tells whether it is there, has numbers of capabilities alone
+-- a set, in which bit n is that of number n, has only numbers of capabilities
 abbrev pub are_capabilities : ℕ → Bool
 are_capabilities set = nat_lt set (2 ^ 41)
 

@@ -12,7 +12,7 @@ is_matching path (Cap rule) = false
 is_matching path (Net rule) = false
 is_matching path (Other rule) = false
 
--- such a rule stands at a place
+-- the rule at a place is on files, and its pattern matches a path
 abbrev pub IsMatchingAt : List Rule → List ℕ → ℕ → Type 0
 IsMatchingAt rules path place = (rule : Rule) × (slice_get rules place ≡ Some rule) × (is_matching path rule ≡ true)
 

@@ -6,16 +6,16 @@ use Rattle.std.specs.Str.{bytes_eq}
 use Rattle.aa_bytes.specs.Bytes.{ampersand, colon, quote, slash, space}
 use Rattle.aa_bytes.specs.Texts.{begins}
 
--- what a name is made of: bytes from the space on, but for `"`
+-- what a name consists of: bytes from the space on, except `"`
 abbrev pub is_name_byte : ℕ → Bool
 is_name_byte b = nat_le space b && not (b == quote)
 
--- behind each slash stands a byte that is none
+-- each slash is followed by a byte that is no slash
 abbrev pub slashes_are_within : List ℕ → Bool
 slashes_are_within [] = true
 slashes_are_within (b ∷ bs) = (not (b == slash) || begins (λ c. not (c == slash)) bs) && slashes_are_within bs
 
--- A name. It isn't empty, and begins neither with `:`, as namespaces do, nor with `&`, as profiles behind others do.
+-- A name. It isn't empty, and begins neither with `:`, as namespaces do, nor with `&`, as the later members of stacks do.
 abbrev pub is_name : List ℕ → Bool
 is_name text = begins (λ b. not (b == colon || b == ampersand)) text && list_all is_name_byte text && slashes_are_within text
 

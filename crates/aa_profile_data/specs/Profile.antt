@@ -18,7 +18,7 @@ are_distinct (profile ∷ profiles) = not (list_any (is_named profile.name) prof
 abbrev pub is_child_named : List ℕ → Child → Bool
 is_child_named name child = bytes_eq child.name name
 
--- the place of the child or hat of a name
+-- the index of the child or hat of a name
 abbrev pub child_place : List ℕ → List Child → Option ℕ
 child_place name children = position (is_child_named name) children
 

@@ -1,4 +1,4 @@
--- Requests, as rules are asked and questions ask.
+-- Requests, about which rules decide, and which questions ask.
 use Rattle.std.specs.Prelude.{ℕ, Bool, List}
 
 -- What is asked for: a file, by the letters that are needed, whether the task's user owns it, and its path; a capability, by its number; or

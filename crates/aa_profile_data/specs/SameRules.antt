@@ -1,4 +1,4 @@
--- Rules that are the same, equal in all that they have; and lists of the same rules.
+-- Rules that are the same, equal in all their fields; and lists of the same rules.
 use Rattle.std.specs.Prelude.{ℕ, Bool, true, false, not, ◌&&◌, ◌==◌, if◌then◌else◌, List, Option, None, Some}
 use Rattle.std.specs.List.{Contains}
 use Rattle.std.specs.Str.{bytes_eq}
@@ -12,18 +12,18 @@ use Rattle.aa_profile_data.specs.declared.profile.Rule.{Rule}
 use Rattle.aa_profile_data.specs.declared.profile.Rule.TheVariants.{Cap, File, Net, Other}
 use Rattle.aa_profile_data.specs.declared.profile.Transition.{Transition}
 
--- two words are there both, or neither is
+-- two flags are equal
 abbrev pub same_flag : Bool → Bool → Bool
 same_flag one other = if one then other else not other
 
--- two numbers are the same, or both none
+-- two numbers are equal, or neither is there
 abbrev pub same_number : Option ℕ → Option ℕ → Bool
 same_number None None = true
 same_number (Some one) (Some other) = one == other
 same_number None (Some other) = false
 same_number (Some one) None = false
 
--- two rules lead programs to the same place, or neither leads them anywhere
+-- two rules have the same transition, or neither has one
 abbrev pub same_exec : Option Transition → Option Transition → Bool
 same_exec None None = true
 same_exec (Some one) (Some other) = same_transition one other
@@ -46,7 +46,7 @@ abbrev pub same_other_rule : OtherRule → OtherRule → Bool
 same_other_rule one other =
     bytes_eq one.text other.text && same_flag one.owner other.owner && same_flag one.deny other.deny && same_flag one.audit other.audit
 
--- two rules are of one kind, and equal in all that they have
+-- two rules are of one kind, and equal in all their fields
 abbrev pub same_rule : Rule → Rule → Bool
 same_rule (File one) (File other) = same_file_rule one other
 same_rule (Cap one) (Cap other) = same_cap_rule one other
@@ -54,7 +54,7 @@ same_rule (Net one) (Net other) = same_net_rule one other
 same_rule (Other one) (Other other) = same_other_rule one other
 same_rule _ _ = false
 
--- two lists have the same rules, in whatever order and however often each stands
+-- two lists have the same rules, in whatever order and however often each occurs
 abbrev pub HaveSameRules : List Rule → List Rule → Type 0
 HaveSameRules rules others =
     ((rule : Rule) → Contains rules rule → Contains others rule) × ((rule : Rule) → Contains others rule → Contains rules rule)

@@ -8,7 +8,7 @@ use Rattle.aa_profile_data.specs.Names.{is_top_name}
 use Rattle.aa_profile_data.specs.declared.exec_word.Destination.{Destination}
 use Rattle.aa_profile_data.specs.declared.exec_word.Destination.TheVariants as to
 
--- the parts of what stands behind so many bytes of a text, which is cut at each `//&`: at the first from the left, and then at the next behind it
+-- the parts of what follows so many bytes of a text, which is cut at each `//&`: at the first from the left, and then at the next after it
 abbrev pub parts_behind : ℕ → List ℕ → List (List ℕ)
 parts_behind skipped [] = [] ∷ []
 parts_behind (suc skipped) (b ∷ bs) = parts_behind skipped bs
@@ -18,7 +18,7 @@ parts_behind zero (b ∷ bs) = if begins_with (codes "//&") (b ∷ bs) then [] �
 abbrev pub parts_of : List ℕ → List (List ℕ)
 parts_of text = parts_behind zero text
 
--- the parts behind a `//&`, if there is one
+-- the parts after a `//&`, if there is one
 abbrev pub parts_of_rest : Option (List ℕ) → List (List ℕ)
 parts_of_rest None = []
 parts_of_rest (Some rest) = parts_of rest
@@ -27,30 +27,30 @@ parts_of_rest (Some rest) = parts_of rest
 abbrev pub are_full_names : List ℕ → Bool
 are_full_names text = list_all is_full_name (parts_of text)
 
--- a stack on the profile that would be taken otherwise: `&`, and such names
+-- a stack on the profile that would be taken otherwise: `&`, followed by such names
 abbrev pub is_open_stack : List ℕ → Bool
 is_open_stack text = begins_with_byte ampersand text && are_full_names (drop 1 text)
 
--- What a word that leads to a profile, a child or a hat may name: what is there by itself, or a stack, on whatever profile that would be or,
--- where the word leads to a profile, of names alone. A text is cut at each `//&` before its names are looked at, so none has two readings.
+-- What the target of a word may be that leads to a profile, a child or a hat: a name, or a stack, on whatever profile would be taken or, where the
+-- word leads to a profile, of names alone. A text is cut at each `//&` before its names are looked at, so none has two readings.
 abbrev pub is_name_or_stack_of : Destination → List ℕ → Bool
 is_name_or_stack_of to.Profile text = is_open_stack text || are_full_names text
 is_name_or_stack_of to.Child text = is_open_stack text || is_top_name text
 is_name_or_stack_of _ text = false
 
--- A stack, as a text names it: whether it is on the profile that would be taken otherwise, and the full names of the others in it.
+-- A stack, as a text names it: whether it is on the profile that would be taken otherwise, and the full names of its other members.
 pub record Stack : Type 0 where
   pub on_base : Bool
   pub members : List (List ℕ)
 
--- a stack of names alone: of two at least
+-- a stack of names alone: of at least two
 abbrev pub stack_of_names : List (List ℕ) → Option Stack
 stack_of_names [] = None
 stack_of_names (name ∷ []) = None
 stack_of_names (name ∷ other ∷ more) = Some (record { on_base = false; members = name ∷ other ∷ more })
 
 -- The stack that a text names, if it names one: it begins with `&`, or is full names with `//&` between them. A name is never one: that of a child
--- may begin with `/&`, and what stands before it ends in a slash then, as no name does.
+-- may begin with `/&`, and what comes before it then ends in a slash, as no name does.
 abbrev pub stack_of : List ℕ → Option Stack
 stack_of text =
     if begins_with_byte ampersand text then Some (record { on_base = true; members = parts_of (drop 1 text) }) else

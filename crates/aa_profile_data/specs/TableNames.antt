@@ -1,4 +1,4 @@
--- Tables of names, each of which stands at its number.
+-- Tables of names, each at the index that is its number.
 use Rattle.std.specs.Prelude.{ℕ, ◌+◌, List, [], ◌∷◌, Option, None, Some, if◌then◌else◌}
 use Rattle.std.specs.Str.{bytes_eq}
 
@@ -11,7 +11,7 @@ number_from first (own ∷ names) name = if bytes_eq own name then Some first el
 abbrev pub number_in : List (List ℕ) → List ℕ → Option ℕ
 number_in names name = number_from 0 names name
 
--- the name that a table gives; a number without a row has none
+-- the name in a table; empty where the number has none
 abbrev pub name_or_none : Option (List ℕ) → List ℕ
 name_or_none None = []
 name_or_none (Some name) = name

@@ -1,5 +1,5 @@
--- The access of a file rule, as its text says it (apparmor.d(5), "File Permission Access Modes"; docs/policy.md, "Rules"). The law
--- `what_accesses_say` says the same by the parts of which the text is written (AccessText.antt).
+-- The access of a file rule, as it is written (apparmor.d(5), "File Permission Access Modes"; docs/policy.md, "Rules"). The law `what_accesses_say`
+-- describes it by the parts of which the text consists (AccessText.antt).
 use Rattle.std.specs.Prelude.{ℕ, Bool, false, not, ◌&&◌, ◌||◌, List, [], ◌∷◌, Option, None, Some, is_some, option_and_then}
 use Rattle.aa_profile_data.specs.Access.{EXEC, has, told_bit, union}
 use Rattle.aa_profile_data.specs.ExecWords.{exec_word, same_word}
@@ -10,19 +10,19 @@ use Rattle.aa_profile_data.specs.declared.written.WrittenAccess.{WrittenAccess}
 abbrev pub nothing_written : WrittenAccess
 nothing_written = record { letters = record { 0 = 0 }; word = None; differs = false }
 
--- one letter more
+-- with one more letter
 abbrev pub with_letter : WrittenAccess → ℕ → WrittenAccess
 with_letter before bit = record { letters = record { 0 = union before.letters.0 bit }; word = before.word; differs = before.differs }
 
--- one exec word more
+-- with one more exec word
 abbrev pub with_word : WrittenAccess → ExecWord → WrittenAccess
 with_word before word = elim before.word [
   | None ↦ record { letters = before.letters; word = Some word; differs = before.differs }
   | Some first ↦ record { letters = before.letters; word = Some first; differs = before.differs || not (same_word first word) }
 ]
 
--- What a text says, and what was said before it, from the left: an exec word of three bytes or else of two, or else a letter. Nothing, where
--- something else stands in it.
+-- What a text says, after what was said before it, from the left: an exec word of three bytes or else of two, or else a letter. `None`, where it has
+-- something else.
 abbrev pub access_with : WrittenAccess → List ℕ → Option WrittenAccess
 access_with before [] = Some before
 access_with before (a ∷ []) = option_and_then (λ bit. Some (with_letter before bit)) (told_bit a)

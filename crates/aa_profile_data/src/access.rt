@@ -48,7 +48,7 @@ impl Flags for Perms {
 }
 
 impl Perms {
-    /// The set of one letter of `r w a l k m`, or none where the byte is another: a rule has `x` by its exec word, and a question by its kind.
+    /// The set of one letter of `r w a l k m`; `None` for any other byte. A rule has `x` by its exec word, and a question by its kind.
     pub fn of_letter(letter: u8) -> Option<Perms>
         ensures { option_map (λ p. p.0) result ≡ bit_of letter }
     {
@@ -63,7 +63,8 @@ impl Perms {
         }
     }
 
-    /// The set of the letters of `r w a l k m` that a request needs: at least one, each known and none twice. None for other bytes.
+    /// The set of the letters of `r w a l k m` that a request needs: at least one, each known and none twice; `None` for other texts. It takes no
+    /// memory.
     pub fn of_letters(letters: &[u8]) -> Option<Perms>
         ensures needs { option_map (λ p. p.0) result ≡ needs_of letters.now }
         ensures known { IfSome result (λ p. p.0 < asked_letters) }
@@ -82,7 +83,7 @@ impl Perms {
         Some(set)
     }
 
-    /// What a rule with these letters covers: each letter itself, and `w` covers `a` too.
+    /// What a rule with these letters covers: each letter itself, and with `w` also `a`.
     pub fn covered(self) -> Perms
         ensures { result.0 ≡ covered self.0 }
     {
@@ -93,7 +94,7 @@ impl Perms {
         }
     }
 
-    // Puts a letter behind a text, where the set has it.
+    // Appends a letter to a text, if the set has it.
     fn push_letter(self, letter: u8, text: &mut Vec<u8>) -> Result<(), AllocError>
         ensures { OnOk result (text.new.items ≡ text.old.items ++ letter_in self.0 letter) }
     {
@@ -105,7 +106,7 @@ impl Perms {
         Ok(())
     }
 
-    // Puts those of some letters behind a text that the set has, in their order.
+    // Appends those of some letters to a text that the set has, in their order.
     fn push_letters_among(self, letters: &[u8], text: &mut Vec<u8>) -> Result<(), AllocError>
         ensures { OnOk result (text.new.items ≡ text.old.items ++ flat_map (letter_in self.0) letters.now) }
     {
@@ -117,7 +118,7 @@ impl Perms {
         Ok(())
     }
 
-    /// Puts the letters of the set behind a text, in the order `r w a l k m x`.
+    /// Appends the letters of the set to a text, in the order `r w a l k m x`.
     ///
     /// # Errors
     ///
@@ -129,7 +130,7 @@ impl Perms {
     }
 }
 
-// The set of one letter that is told.
+// The set of one letter of `r w a l k m x`; `None` for any other byte.
 pub fn told_letter(letter: u8) -> Option<Perms>
     ensures { option_map (λ p. p.0) result ≡ told_bit letter }
 {

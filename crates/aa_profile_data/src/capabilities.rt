@@ -5,7 +5,7 @@ ghost use Rattle.aa_profile_data.specs.Capabilities.{capability_name, capability
 
 use crate::table_names::{name_in, number_in};
 
-/// The names of the capabilities: each stands at its number.
+/// The names of the capabilities, each at the index that is its number.
 pub const CAPABILITIES: [&str; 41] = [
     "chown",
     "dac_override",
@@ -50,14 +50,14 @@ pub const CAPABILITIES: [&str; 41] = [
     "checkpoint_restore",
 ];
 
-/// The number of the capability of a name, or nothing where no capability has it. It takes no memory.
+/// The number of the capability of a name, or `None` where no capability has it. It takes no memory.
 pub fn capability_number(name: &[u8]) -> Option<u8>
     ensures { result ≡ capability_number name.now }
 {
     number_in(&CAPABILITIES, name)
 }
 
-/// The name of the capability of a number, or nothing where none has it: numbers go from 0 to 40. It takes no memory.
+/// The name of the capability of a number, or `None` where none has it: numbers go from 0 to 40. It takes no memory.
 pub fn capability_name(number: u8) -> Option<&'static str>
     ensures { option_map (λ name. name.now) result ≡ capability_name number }
 {

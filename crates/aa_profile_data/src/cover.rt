@@ -34,7 +34,7 @@ impl CapRule {
     }
 }
 
-// Whether a rule's domain covers one: none covers all.
+// Whether a rule's domain covers a domain: where the rule has none, it covers all.
 fn covers_domain(own: Option<u8>, domain: u8) -> bool
     ensures { result ≡ covers_domain own domain }
 {
@@ -44,7 +44,7 @@ fn covers_domain(own: Option<u8>, domain: u8) -> bool
     }
 }
 
-// Whether a rule's type or protocol covers a type in a domain: none covers all.
+// Whether a rule's type or protocol covers a type in a domain: where the rule has neither, it covers all.
 fn covers_kind(own: Option<u8>, domain: u8, kind: u8) -> bool
     ensures { result ≡ covers_kind own domain kind }
 {
@@ -55,8 +55,8 @@ fn covers_kind(own: Option<u8>, domain: u8, kind: u8) -> bool
 }
 
 impl NetRule {
-    /// Whether the rule covers sockets of a type in a domain, by their numbers (apparmor.d(5), "Network Rules"): a missing domain stands
-    /// for all and a missing type too, and a protocol for its type in the domains that have protocols. It takes no memory.
+    /// Whether the rule covers sockets of a type in a domain, by their numbers (apparmor.d(5), "Network Rules"): a rule without a domain covers all
+    /// domains, one without a type all types, and a protocol covers its type in the domains that have protocols. It takes no memory.
     pub fn covers(&self, domain: u8, kind: u8) -> bool
         ensures { result ≡ covers_socket domain kind self.now }
     {

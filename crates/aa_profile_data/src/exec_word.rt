@@ -1,4 +1,4 @@
-//! The exec words of rules: under what a program runs that is started.
+//! The exec words of rules: under which profile a program runs that is started.
 
 ghost use Rattle.std.specs.Prelude.{◌≡◌, false, true};
 ghost use Rattle.aa_profile_data.specs.ExecWords.{exec_word, row, same_word, seen_row, word_among};
@@ -6,17 +6,17 @@ ghost use Rattle.aa_profile_data.specs.ExecWords.{exec_word, row, same_word, see
 /// Where an exec word leads.
 #[derive(Clone, Copy)]
 pub enum Destination {
-    /// To a profile: the one that the rule names, or else the one that is attached to the program.
+    /// To a profile: the one that the rule names, or else the one that attaches to the program.
     Profile,
-    /// To a child or a hat of the profile that asks, in the same way.
+    /// To a child or a hat of the profile that asks: the one that the rule names, or else the child that attaches to the program.
     Child,
-    /// To what asks itself.
+    /// To the profile that asks.
     Inherit,
     /// To no profile.
     Unconfined,
 }
 
-/// An exec word of a rule: under what a program runs that is started (apparmor.d(5), "Execute Rules").
+/// An exec word of a rule: under which profile a program runs that is started (apparmor.d(5), "Execute Rules").
 #[derive(Clone, Copy, Debug, PartialEq, Eq)]
 pub enum ExecWord {
     /// `ix`
@@ -103,7 +103,7 @@ fn scrubbed(text: &'static str, destination: Destination, fallback: Option<Desti
     }
 }
 
-// The one of these exec words that a text is.
+// The one of these exec words whose text this is, or `None`.
 fn word_among(words: &[ExecWord], text: &[u8]) -> Option<ExecWord>
     ensures { result ≡ word_among words.now text.now }
 {
@@ -118,7 +118,7 @@ fn word_among(words: &[ExecWord], text: &[u8]) -> Option<ExecWord>
 }
 
 impl ExecWord {
-    // The word's row: the one table of exec words.
+    // The word's row in the one table of exec words.
     fn row(self) -> Row
         ensures { seen_row result ≡ row self }
     {
@@ -157,7 +157,7 @@ impl ExecWord {
         self.row().destination
     }
 
-    /// Where it leads if there is no such profile, child or hat; none where it leads nowhere then.
+    /// Where it leads if there is no such profile, child or hat; `None` where it has no fallback.
     pub fn fallback(self) -> Option<Destination>
         ensures { result ≡ (row self).fallback }
     {
@@ -178,7 +178,7 @@ impl ExecWord {
         self.text().as_bytes() == other.text().as_bytes()
     }
 
-    /// The exec word of a text, or none where the text is no exec word.
+    /// The exec word of a text, or `None` where the text is no exec word. It takes no memory.
     pub fn of_text(text: &[u8]) -> Option<ExecWord>
         ensures { result ≡ exec_word text.now }
     {

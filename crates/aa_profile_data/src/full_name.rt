@@ -1,4 +1,4 @@
-//! Full names: of a profile, or of one of its children or hats.
+//! Full names: of a profile, or of one of its children or hats with `//` between the two names.
 
 ghost use Rattle.std.specs.Prelude.{◌≡◌};
 ghost use Rattle.std.specs.Option.{option_copied};
@@ -7,7 +7,7 @@ ghost use Rattle.aa_profile_data.specs.FullNames.{full_name, is_full_name};
 use crate::names::{is_name, is_top_name};
 use aa_bytes::{begins_with, behind};
 
-/// The name of the profile in a full name, and that of the child or hat, if it names one. It is cut at its first `//`.
+/// The name of the profile in a full name, and that of the child or hat, if it names one. The text is cut at its first `//`. It takes no memory.
 pub fn cut_full_name(name: &[u8]) -> (&[u8], Option<&[u8]>)
     ensures profile { result.0.now ≡ (full_name name.now).profile }
     ensures child { option_copied result.1 ≡ (full_name name.now).child }
@@ -22,7 +22,7 @@ pub fn cut_full_name(name: &[u8]) -> (&[u8], Option<&[u8]>)
 }
 
 /// Whether a text is a full name: the name of a profile that isn't within another, or such a name, `//` and the name of a child or a hat
-/// (docs/policy.md, "Names").
+/// (docs/policy.md, "Names"). `O(n)` in its length. It takes no memory.
 pub fn is_full_name(text: &[u8]) -> bool
     ensures { result ≡ is_full_name text.now }
 {

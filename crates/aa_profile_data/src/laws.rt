@@ -1,4 +1,4 @@
-//! What holds of the rules that match a path, and of those that conflict, as laws over the definitions.
+//! Properties of the rules that match a path, and of those that conflict, as laws over the definitions.
 
 ghost use Rattle.std.specs.Prelude.{◌≡◌, ◌↔◌, ℕ, All, List, true};
 ghost use Rattle.std.specs.List.{filter};
@@ -14,9 +14,9 @@ ghost use Rattle.aa_profile_data.specs.declared.profile.Rule.{Rule};
 
 use aa_glob_pattern::how_overlaps_are_tested;
 
-/// What stands at the places of the rules that match a path, in rising order, are those rules in their order. Where the places of the patterns of
-/// file rules are known that match a path, what stands at these among the places of the file rules are the places of the rules that match,
-/// and they rise as those do.
+/// The rules at the places of the rules that match a path, in rising order, are those rules in their order. Given the places of the patterns of file
+/// rules that match a path, what is at these places in the list of the file rules' places are the places of the rules that match, and these rise as
+/// well.
 pub fn which_rules_match()
     ensures places_pick_the_matching_rules { (rules : List Rule) (path places : List ℕ)
         → AreMatchingRules rules path places
@@ -30,8 +30,8 @@ pub fn which_rules_match()
         → IsStrictlyIncreasing (picked (places_from 0 rules) found) }
 {}
 
-/// Two rules whose patterns were read conflict, as the test `conflict` says, exactly where they lead to different places with one rank, and some path
-/// matches both. Rules agree exactly where none of them conflicts with an earlier one.
+/// Two rules whose patterns were read conflict, as the test `conflict` says, exactly where they lead to different profiles with one rank, and some
+/// path matches both. Rules agree exactly where none of them conflicts with an earlier one.
 pub fn how_conflicts_are_tested()
     ensures conflict_is_exact { (one other : Rule) → HasReadPattern one → HasReadPattern other → (conflict one other ≡ true ↔ Conflict one other) }
     ensures agree_is_exact { (rules : List Rule) → All HasReadPattern rules → (agree rules ≡ true ↔ NoneConflict rules) }

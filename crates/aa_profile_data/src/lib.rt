@@ -1,5 +1,6 @@
-//! Profiles, their children and hats, and their rules, as plain data, and what rules cover; and what these are made of: access letters and sets of them,
-//! exec words, the access of a file rule, as its text says it, what a request asks for, the names of profiles, and the tables of capabilities and sockets.
+//! Profiles, their children and hats, and their rules as plain data, and what rules cover; and what these are made of: access letters and sets of
+//! them, exec modes (exec words), the access of a file rule as it is written, requests, the names of profiles, and the tables of capabilities and of
+//! socket domains and types. `aa_profile` passes it on.
 #![tactic(auto)]
 
 mod access;

@@ -18,7 +18,7 @@ fn are_name_bytes(text: &[u8]) -> bool
     text.iter().all(|byte| is_name_byte(*byte))
 }
 
-// Whether behind each slash stands a byte that is none.
+// Whether each slash is followed by a byte that is no slash.
 fn slashes_are_within(text: &[u8]) -> bool
     ensures { result ≡ slashes_are_within text.now }
 {
@@ -32,8 +32,8 @@ fn slashes_are_within(text: &[u8]) -> bool
     true
 }
 
-/// Whether a text is the name of a profile, a child or a hat: it isn't empty, holds neither bytes below the space nor `"`, nor two slashes in a
-/// row, doesn't end in a slash, and begins neither with `:` nor with `&` (docs/policy.md, "Names").
+/// Whether a text is the name of a profile, a child or a hat: it isn't empty, holds neither bytes below the space nor `"`, nor two slashes in a row,
+/// doesn't end in a slash, and begins neither with `:` nor with `&` (docs/policy.md, "Names"). `O(n)` in its length. It takes no memory.
 pub fn is_name(text: &[u8]) -> bool
     ensures { result ≡ is_name text.now }
 {
@@ -43,7 +43,7 @@ pub fn is_name(text: &[u8]) -> bool
     }
 }
 
-/// Whether a text is the name of a profile that isn't within another: a name, and not `unconfined`.
+/// Whether a text is the name of a profile that isn't within another: a name, and not `unconfined`. `O(n)` in its length. It takes no memory.
 pub fn is_top_name(text: &[u8]) -> bool
     ensures { result ≡ is_top_name text.now }
 {

@@ -11,31 +11,31 @@ use aa_bytes::{Sequence, SharedBytes, share_option};
 use aa_glob_pattern::Pattern;
 use std::alloc::{AllocError, Global};
 
-/// Whether what the rules don't allow is refused, or let through and logged, or no rule is asked.
+/// What happens to requests that no rule allows.
 #[derive(Clone, Copy, Debug, PartialEq, Eq)]
 pub enum Mode {
     /// What the rules don't allow is refused.
     Enforce,
-    /// What the rules don't allow is let through, unless a rule denies it.
+    /// What the rules don't allow is allowed and logged, unless a rule denies it.
     Complain,
-    /// No rule is asked: all is let through, and nothing is logged.
+    /// No rule is looked at: all is allowed, and nothing is logged.
     Unconfined,
 }
 
-/// Which exec rules decide where a program goes: of those that apply to its path the ones of the highest rank (docs/policy.md, "The start of a
-/// program"). The rank of a rule without an exec word decides nothing.
+/// Which exec rules decide under which profile a program runs: of those that apply to its path the ones of the highest rank (docs/policy.md, "The
+/// start of a program"). The rank of a rule without an exec word decides nothing.
 #[derive(Clone, Copy, Debug, PartialEq, Eq)]
 pub enum Rank {
-    /// Below all others.
+    /// Lower than all others.
     Last,
-    /// That of a pattern that isn't plain.
+    /// The rank of a pattern that isn't plain.
     Loose,
-    /// That of a plain pattern, above all others.
+    /// The rank of a plain pattern, higher than all others.
     Plain,
 }
 
 impl Rank {
-    /// Whether another one is the same. It takes no memory.
+    /// Whether another rank is the same. It takes no memory.
     pub fn is_same(self, other: Rank) -> bool
         ensures { result ≡ same_rank self other }
     {
@@ -48,25 +48,25 @@ impl Rank {
     }
 }
 
-/// Under what a program runs that a rule lets be started.
+/// Under which profile a program runs that a rule allows to be started.
 #[derive(Debug, Drop)]
 pub struct Transition {
     /// The exec word.
     pub word: ExecWord,
-    /// The name of the profile, child or hat that the rule names; none where it names none. All rules that one written rule makes share it.
+    /// The name of the profile, child or hat that the rule names; `None` where it names none. All rules that one written rule makes share it.
     pub target: Option<SharedBytes>,
 }
 
 /// A rule on files.
 #[derive(Debug, Drop)]
 pub struct FileRule {
-    /// The pattern of the paths that it is about.
+    /// The pattern of the paths that it covers.
     pub pattern: Pattern,
     /// The access letters; the bare `x` of a deny rule is among them.
     pub access: Perms,
-    /// Under what the programs run that it lets be started; none where it has no exec word.
+    /// Under which profile the programs run that it allows to be started; `None` where it has no exec word.
     pub exec: Option<Transition>,
-    /// Before which others that decides.
+    /// Which exec rules come before it in deciding `exec`.
     pub rank: Rank,
     /// The target of hard links that it names, which decides nothing. All rules that one written rule makes share it.
     pub link: Option<SharedBytes>,
@@ -81,7 +81,7 @@ pub struct FileRule {
 /// A rule on capabilities.
 #[derive(Clone, Copy, Debug, PartialEq, Eq)]
 pub struct CapRule {
-    /// The set of the capabilities that it is about: the bit of each number of `aa_profile_data` tells whether that one is.
+    /// The set of the capabilities that it covers: bit n is set for the capability of number n.
     pub caps: u64,
     /// Whether it denies what it covers.
     pub deny: bool,
@@ -92,9 +92,9 @@ pub struct CapRule {
 /// A rule on sockets.
 #[derive(Clone, Copy, Debug, PartialEq, Eq)]
 pub struct NetRule {
-    /// The number of the domain that it is about; none where it is about all.
+    /// The number of the domain that it covers; `None` where it covers all.
     pub domain: Option<u8>,
-    /// The number of the type or the protocol that it is about; none where it is about all.
+    /// The number of the type or the protocol that it covers; `None` where it covers all.
     pub kind: Option<u8>,
     /// Whether it denies what it covers.
     pub deny: bool,
@@ -102,16 +102,16 @@ pub struct NetRule {
     pub audit: bool,
 }
 
-/// A rule that decides nothing here, and is kept and shown as it is written.
+/// A rule of a kind that isn't modelled: it decides nothing here, and is kept and shown as it is written.
 #[derive(Debug, Drop)]
 pub struct OtherRule {
-    /// Its text without the words before it and without the Comma at its end, one blank between two tokens but none before a comma.
+    /// Its text without the qualifiers before it and without the Comma at its end, one blank between two tokens but none before a comma.
     pub text: Sequence<u8>,
-    /// Whether `owner` stands before it.
+    /// Whether `owner` comes before it.
     pub owner: bool,
-    /// Whether `deny` stands before it.
+    /// Whether `deny` comes before it.
     pub deny: bool,
-    /// Whether `audit` stands before it.
+    /// Whether `audit` comes before it.
     pub audit: bool,
 }
 
@@ -135,11 +135,11 @@ pub struct Child {
     pub name: Sequence<u8>,
     /// Whether it is a hat.
     pub hat: bool,
-    /// The patterns of the programs that it is attached to; a hat has none.
+    /// The patterns of the programs that it attaches to; a hat has none.
     pub attachments: Sequence<Pattern>,
     /// Whether what each of its rules decides is logged.
     pub audit: bool,
-    /// The mode that its own flags give.
+    /// The mode that its own flags set.
     pub mode: Mode,
     /// The rules, in the order of the file.
     pub rules: Sequence<Rule>,
@@ -150,11 +150,11 @@ pub struct Child {
 pub struct Profile {
     /// The name.
     pub name: Sequence<u8>,
-    /// The patterns of the programs that it is attached to.
+    /// The patterns of the programs that it attaches to.
     pub attachments: Sequence<Pattern>,
-    /// Whether what each of its rules decides is logged; this doesn't reach its children.
+    /// Whether what each of its rules decides is logged; this doesn't apply to its children.
     pub audit: bool,
-    /// The mode that its own flags give.
+    /// The mode that its own flags set.
     pub mode: Mode,
     /// The rules, in the order of the file.
     pub rules: Sequence<Rule>,
@@ -163,7 +163,7 @@ pub struct Profile {
 }
 
 impl Drop for Profile {
-    // Proved here, once for all crates that own one.
+    // Proved here, once for all crates that own a profile.
     fn drop(self) {
         let Profile {
             name,
@@ -180,7 +180,7 @@ impl Drop for Profile {
     }
 }
 
-// Whether two transitions name the same target, or both none.
+// Whether two transitions name the same target, or neither names one.
 pub fn same_target(one: &Option<SharedBytes>, other: &Option<SharedBytes>) -> bool
     ensures { result ≡ same_target one.now other.now }
 {
@@ -192,14 +192,14 @@ pub fn same_target(one: &Option<SharedBytes>, other: &Option<SharedBytes>) -> bo
 }
 
 impl Transition {
-    /// Whether another one has the same exec word and the same target, or no target as this one. It takes no memory.
+    /// Whether another transition has the same exec word, and the same target or none as this one. It takes no memory.
     pub fn is_same(&self, other: &Transition) -> bool
         ensures { result ≡ same_transition self.now other.now }
     {
         self.word.is_same(other.word) && same_target(&self.target, &other.target)
     }
 
-    // An equal transition, which shares the target. It takes no memory.
+    // A copy of the transition, which shares the target. It takes no memory.
     fn try_copy(&self) -> Result<Transition, AllocError>
         ensures { IfOk result (λ copy. copy ≡ self.now) }
     {
@@ -210,7 +210,7 @@ impl Transition {
     }
 }
 
-// An equal transition, where there is one. It takes no memory.
+// A copy of the transition, where there is one. It takes no memory.
 fn copied_transition(exec: &Option<Transition>) -> Result<Option<Transition>, AllocError>
     ensures { IfOk result (λ copy. copy ≡ exec.now) }
 {
@@ -221,7 +221,7 @@ fn copied_transition(exec: &Option<Transition>) -> Result<Option<Transition>, Al
 }
 
 impl FileRule {
-    // An equal rule.
+    // A copy of the rule, which shares the names of targets.
     fn try_copy(&self, alloc: Global) -> Result<FileRule, AllocError>
         ensures { IfOk result (λ copy. copy ≡ self.now) }
     {
@@ -239,7 +239,7 @@ impl FileRule {
 }
 
 impl OtherRule {
-    // An equal rule.
+    // A copy of the rule.
     fn try_copy(&self, alloc: Global) -> Result<OtherRule, AllocError>
         ensures { IfOk result (λ copy. copy ≡ self.now) }
     {
@@ -253,7 +253,7 @@ impl OtherRule {
 }
 
 impl Rule {
-    /// An equal rule, which shares the names of targets.
+    /// A copy of the rule, which shares the names of targets.
     ///
     /// # Errors
     ///
@@ -271,7 +271,7 @@ impl Rule {
 }
 
 impl Child {
-    // An equal child.
+    // A copy of the child.
     fn try_copy(&self, alloc: Global) -> Result<Child, AllocError>
         ensures { IfOk result (λ copy. copy ≡ self.now) }
     {
@@ -290,7 +290,7 @@ impl Child {
 }
 
 impl Profile {
-    /// An equal profile.
+    /// A copy of the profile, which shares the names of rules' targets. `O(n)` in its size.
     ///
     /// # Errors
     ///
@@ -343,7 +343,7 @@ fn copied_children(alloc: Global, children: &[Child]) -> Result<Vec<Child>, Allo
     Ok(copies)
 }
 
-/// The place of the child or hat of a name among some, or none where none has it. It takes no memory.
+/// The index of the child or hat of a name, or `None` where none has it. It takes no memory; `O(n)` comparisons of names for n children.
 pub fn child_place(name: &[u8], children: &[Child]) -> Option<usize>
     ensures { result ≡ child_place name.now children.now }
 {

@@ -1,8 +1,8 @@
-//! Requests, as a profile's rules are asked.
+//! Requests, about which a profile's rules decide.
 
 use crate::access::Perms;
 
-/// A request, as a profile's rules are asked.
+/// A request, about which a profile's rules decide.
 #[derive(Clone, Copy, Debug)]
 pub enum Request<'a> {
     /// To use a file.

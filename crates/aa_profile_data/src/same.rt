@@ -6,14 +6,14 @@ ghost use Rattle.aa_profile_data.specs.SameRules.{same_cap_rule, same_exec, same
 
 use crate::profile::{CapRule, FileRule, NetRule, OtherRule, Rule, Transition, same_target};
 
-// Whether two words are there both, or neither is.
+// Whether two flags are equal.
 fn same_flag(one: bool, other: bool) -> bool
     ensures { result ≡ same_flag one other }
 {
     one == other
 }
 
-// Whether two numbers are the same, or both none.
+// Whether two numbers are equal, or neither is there.
 fn same_number(one: Option<u8>, other: Option<u8>) -> bool
     ensures { result ≡ same_number one other }
 {
@@ -24,7 +24,7 @@ fn same_number(one: Option<u8>, other: Option<u8>) -> bool
     }
 }
 
-// Whether two rules lead programs to the same place, or neither leads them anywhere.
+// Whether two rules have the same transition, or neither has one.
 fn same_exec(one: &Option<Transition>, other: &Option<Transition>) -> bool
     ensures { result ≡ same_exec one.now other.now }
 {
@@ -35,7 +35,7 @@ fn same_exec(one: &Option<Transition>, other: &Option<Transition>) -> bool
     }
 }
 
-// Whether two rules on files are equal in all that they have.
+// Whether two rules on files are equal in all their fields.
 fn same_file_rule(one: &FileRule, other: &FileRule) -> bool
     ensures { result ≡ same_file_rule one.now other.now }
 {
@@ -49,14 +49,14 @@ fn same_file_rule(one: &FileRule, other: &FileRule) -> bool
         && same_flag(one.audit, other.audit)
 }
 
-// The same of rules on capabilities.
+// Whether two rules on capabilities are equal in all their fields.
 fn same_cap_rule(one: &CapRule, other: &CapRule) -> bool
     ensures { result ≡ same_cap_rule one.now other.now }
 {
     one.caps == other.caps && same_flag(one.deny, other.deny) && same_flag(one.audit, other.audit)
 }
 
-// The same of rules on sockets.
+// Whether two rules on sockets are equal in all their fields.
 fn same_net_rule(one: &NetRule, other: &NetRule) -> bool
     ensures { result ≡ same_net_rule one.now other.now }
 {
@@ -66,7 +66,7 @@ fn same_net_rule(one: &NetRule, other: &NetRule) -> bool
         && same_flag(one.audit, other.audit)
 }
 
-// The same of rules that decide nothing.
+// Whether two rules that decide nothing here are equal in all their fields.
 fn same_other_rule(one: &OtherRule, other: &OtherRule) -> bool
     ensures { result ≡ same_other_rule one.now other.now }
 {
@@ -77,7 +77,7 @@ fn same_other_rule(one: &OtherRule, other: &OtherRule) -> bool
 }
 
 impl Rule {
-    /// Whether another one is of the same kind, and equal in all that it has (the law `when_rules_are_same`). It takes no memory.
+    /// Whether another rule is of the same kind, and equal in all its fields (the law `when_rules_are_same`). It takes no memory.
     pub fn is_same(&self, other: &Rule) -> bool
         ensures { result ≡ same_rule self.now other.now }
     {

@@ -1,4 +1,4 @@
-//! Stacks, as targets name them.
+//! Stacks of profiles, as targets name them.
 
 ghost use Rattle.std.specs.Prelude.{◌≡◌, ◌<◌, ◌∷◌, IfSome, length};
 ghost use Rattle.std.specs.Option.{option_map};
@@ -10,16 +10,16 @@ use crate::full_name::is_full_name;
 use crate::names::is_top_name;
 use aa_bytes::{begins_with, behind};
 
-/// A stack, as a target names it.
+/// A stack of profiles, as a target names it.
 #[derive(Clone, Copy)]
 pub struct Stack<'a> {
-    /// Whether it is on the profile that would be taken otherwise.
+    /// Whether it is on top of the profile that would be taken otherwise.
     pub on_base: bool,
-    /// The full names of the others in it, with `//&` between them (`first_member`): one at least.
+    /// The full names of the other profiles in it, with `//&` between them (`first_member`): at least one.
     pub members: &'a [u8],
 }
 
-/// The first of the names in a text that have `//&` between them, and the text of the others, if there are any. It takes no memory.
+/// The first of the names in a text that have `//&` between them, and the text of the rest, if there are more. It takes no memory.
 pub fn first_member(text: &[u8]) -> (&[u8], Option<&[u8]>)
     ensures parts { parts_of text.now ≡ result.0.now ∷ parts_of_rest (option_map (λ rest. rest.now) result.1) }
     ensures shorter { IfSome result.1 (λ rest. length rest.now < length text.now) }
@@ -50,7 +50,7 @@ fn are_full_names(text: &[u8]) -> bool
     }
 }
 
-// Whether a text is `&` and such names.
+// Whether a text is `&` followed by full names with `//&` between them.
 fn is_open_stack(text: &[u8]) -> bool
     ensures { result ≡ is_open_stack text.now }
 {
@@ -60,7 +60,7 @@ fn is_open_stack(text: &[u8]) -> bool
     }
 }
 
-// The stack of names alone that a text names, if it names more than one.
+// The stack of names alone that a text names, or `None` where it names one profile alone.
 fn stack_of_names(text: &[u8]) -> Option<Stack<'_>>
     ensures { option_map seen_stack result ≡ stack_of_names (parts_of text.now) }
 {
@@ -74,8 +74,8 @@ fn stack_of_names(text: &[u8]) -> Option<Stack<'_>>
     })
 }
 
-/// The stack that a target's text names, if it names one: it begins with `&`, or is full names with `//&` between them (docs/policy.md, "Stacks"). It
-/// takes no memory.
+/// The stack that a target's text names, or `None` where it names none: it begins with `&`, or is full names with `//&` between them
+/// (docs/policy.md, "Stacks"). It takes no memory.
 pub fn stack_of(text: &[u8]) -> Option<Stack<'_>>
     ensures { option_map seen_stack result ≡ stack_of text.now }
 {
@@ -89,9 +89,9 @@ pub fn stack_of(text: &[u8]) -> Option<Stack<'_>>
     }
 }
 
-/// Whether a text is what a word may name that leads to such a destination: what is there by itself, or a stack. A word that leads to a profile names a
-/// full name, or a stack of full names, on whatever profile that would be or of these alone; one that leads to a child or a hat a name, or a stack on the
-/// profile that asks (docs/policy.md, "Stacks"). It takes no memory.
+/// Whether a text may be the target of a word with this destination: a name, or a stack. A word that leads to a profile names a full name, or a
+/// stack of full names, on whatever profile would be taken or of these alone; one that leads to a child or a hat names one by its own name, or a
+/// stack on the profile that asks (docs/policy.md, "Stacks"). It takes no memory.
 pub fn is_name_or_stack_of(destination: Destination, text: &[u8]) -> bool
     ensures { result ≡ is_name_or_stack_of destination text.now }
 {

@@ -1,4 +1,4 @@
-//! What holds of the tables, as laws over the definitions that the calls are proved to follow.
+//! Properties of the tables, as laws over the definitions that the calls are proved to follow.
 
 ghost use Rattle.std.specs.Prelude.{◌≡◌, ℕ, ◌<◌, IfSome, List, map};
 ghost use Rattle.aa_profile_data.specs.Capabilities.{names as capability_names, capability_number};
@@ -16,7 +16,7 @@ pub fn which_names_tables_hold()
     ensures table_holds_kinds { map (λ name. name.now) KINDS ≡ kind_names }
 {}
 
-/// The number of each name stands in its table: capabilities have numbers below 41, domains below 44, and kinds below 9.
+/// The number of each name is in its table: capabilities have numbers below 41, domains below 44, and kinds below 9.
 pub fn which_numbers_names_have()
     ensures capabilities_are_below_41 { (name : List ℕ) → IfSome (capability_number name) (λ number. number < 41) }
     ensures domains_are_below_44 { (name : List ℕ) → IfSome (domain_number name) (λ number. number < 44) }

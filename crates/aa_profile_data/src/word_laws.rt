@@ -1,4 +1,4 @@
-//! What holds of accesses and of targets, as laws over the definitions that the calls are proved to follow.
+//! Properties of accesses and of targets, as laws over the definitions that the calls are proved to follow.
 
 ghost use Rattle.std.specs.Prelude.{◌≡◌, ℕ, List, None, true};
 ghost use Rattle.aa_profile_data.specs.FullNames.{is_full_name};
@@ -6,9 +6,9 @@ ghost use Rattle.aa_profile_data.specs.Laws.{ReadAsItsPartsSay, WrittenInOneWay}
 ghost use Rattle.aa_profile_data.specs.Names.{is_top_name};
 ghost use Rattle.aa_profile_data.specs.Stacks.{stack_of};
 
-/// The text of an access is a list of parts, one behind the other: letters, a bare `x` among them, and exec words. `WrittenAccess::of_text`
-/// reads all letters that are among them, the first exec word, and whether another one differs from it; of a text that is written of no such
-/// parts it reads nothing. No text is written of such parts in two ways.
+/// The text of an access is a list of parts, one after the other: letters, a bare `x` among them, and exec words. `WrittenAccess::of_text` reads all
+/// letters that are among them, the first exec word, and whether another one differs from it; a text that is no list of such parts isn't read. No
+/// text is written of such parts in two ways.
 pub fn what_accesses_say()
     ensures read_as_its_parts_say { ReadAsItsPartsSay }
     ensures written_in_one_way { WrittenInOneWay }

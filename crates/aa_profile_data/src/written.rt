@@ -1,4 +1,4 @@
-//! The access of a file rule, as its text says it.
+//! The access of a file rule, as it is written.
 
 ghost use Rattle.std.specs.Prelude.{◌≡◌, ◌<◌, IfSome, length};
 ghost use Rattle.std.specs.Option.{option_map};
@@ -16,7 +16,7 @@ pub struct WrittenAccess {
     pub letters: Perms,
     /// Its exec word; the first where there are several.
     pub word: Option<ExecWord>,
-    /// Whether a further exec word differs from that one.
+    /// Whether a later exec word differs from that one.
     pub differs: bool,
 }
 
@@ -31,7 +31,7 @@ fn nothing_written() -> WrittenAccess
     }
 }
 
-// The exec word of three bytes with which a text begins, and what stands behind it.
+// The exec word of three bytes with which a text begins, and what follows it.
 fn word_of_three(text: &[u8]) -> Option<(ExecWord, &[u8])>
     ensures read { option_map seen_read result ≡ word_of_three text.now }
     ensures shorter { IfSome result (λ read. length read.1.now < length text.now) }
@@ -43,7 +43,7 @@ fn word_of_three(text: &[u8]) -> Option<(ExecWord, &[u8])>
     Some((word, behind))
 }
 
-// The exec word of two bytes with which a text begins, and what stands behind it.
+// The exec word of two bytes with which a text begins, and what follows it.
 fn word_of_two(text: &[u8]) -> Option<(ExecWord, &[u8])>
     ensures read { option_map seen_read result ≡ word_of_two text.now }
     ensures shorter { IfSome result (λ read. length read.1.now < length text.now) }
@@ -55,7 +55,7 @@ fn word_of_two(text: &[u8]) -> Option<(ExecWord, &[u8])>
     Some((word, behind))
 }
 
-// The exec word with which a text begins, of three bytes or else of two, and what stands behind it.
+// The exec word with which a text begins, of three bytes or else of two, and what follows it.
 fn first_word(text: &[u8]) -> Option<(ExecWord, &[u8])>
     ensures read { option_map seen_read result ≡ first_word text.now }
     ensures shorter { IfSome result (λ read. length read.1.now < length text.now) }
@@ -67,7 +67,7 @@ fn first_word(text: &[u8]) -> Option<(ExecWord, &[u8])>
 }
 
 impl WrittenAccess {
-    // One letter more.
+    // With one more letter.
     fn with_letter(self, letter: Perms) -> WrittenAccess
         ensures { result ≡ with_letter self letter.0 }
     {
@@ -77,7 +77,7 @@ impl WrittenAccess {
         }
     }
 
-    // One exec word more.
+    // With one more exec word.
     fn with_word(self, word: ExecWord) -> WrittenAccess
         ensures { result ≡ with_word self word }
     {
@@ -93,8 +93,8 @@ impl WrittenAccess {
         }
     }
 
-    /// What a text says: the letters, bare `x` and exec words of which it is written, one behind the other. None where it is written of no such
-    /// parts. `what_accesses_say` says the same of the parts, and that no text is written of them in two ways.
+    /// What a text says: the letters, bare `x` and exec words of which it is written, one after the other; `None` where it isn't written of such
+    /// parts. The law `what_accesses_say` says so of the parts, and that no text is written of them in two ways. It takes no memory.
     #[tactic(auto, using(crate::proofs::WrittenLemmas::read_first, crate::proofs::WrittenLemmas::letter_first))]
     pub fn of_text(text: &[u8]) -> Option<WrittenAccess>
         ensures { result ≡ access_with nothing_written text.now }

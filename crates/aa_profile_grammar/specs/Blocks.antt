@@ -36,21 +36,21 @@ pub record Profile : Type 0 where
   pub head : Head
   pub members : List Member
 
--- the fault of a block's inside: where the tokens run out, its brace is told
+-- the fault within a block: where the tokens run out, it is reported at the block's brace
 abbrev pub closed_fault : Placed → Fault → Fault
 closed_fault brace RanOut = At OpenBlock (place_of brace)
 closed_fault brace (At refusal place) = At refusal place
 closed_fault brace Memory = Memory
 
--- what comes of a block's inside
+-- the result of reading a block's inside
 abbrev pub closed : {A : Type 0} → Placed → Part A → Part A
 closed brace inside = elim inside [ Ok read ↦ Ok read | Err fault ↦ Err (closed_fault brace fault) ]
 
--- the refusal of a name, if it has one: such names aren't accepted, or another has it
+-- the refusal of a name, if it is refused: such names aren't accepted, or another has it
 abbrev pub refusal_of_name : Bool → Bool → Option GrammarRefusal
 refusal_of_name fits taken = if not fits then Some BadName else if taken then Some TwiceNamed else None
 
--- a rule in the block of a child or a hat, in which no other may stand
+-- a rule in the block of a child or a hat, in which no other child may be
 abbrev pub child_rule : Language → List Placed → Part Rule
 child_rule language [] = Err RanOut
 child_rule language (token ∷ tokens) = if begins_child token then refused NestedChild token else rule language (token ∷ tokens)
@@ -71,7 +71,7 @@ is_hat _ = false
 abbrev pub child_block : Language → List Placed → Part (List Rule)
 child_block language tokens = rows (λ read. next_rule language) tokens
 
--- a child or a hat, behind its name
+-- a child or a hat, after its name
 abbrev pub child_behind : Language → Named → List Placed → Part Child
 child_behind language named tokens =
     followed (head language named tokens) (λ head behind.
@@ -82,7 +82,7 @@ abbrev pub is_child_of_name : List ℕ → Member → Bool
 is_child_of_name name (OfRule rule) = false
 is_child_of_name name (OfChild child) = bytes_eq child.head.name name
 
--- a child or a hat, behind what its profile's block held before
+-- a child or a hat, after what its profile's block held before
 abbrev pub child : Language → List Member → Placed → List Placed → Part Child
 child language read token tokens =
     followed (child_name token tokens) (λ named behind.
@@ -91,7 +91,7 @@ child language read token tokens =
       | None ↦ child_behind language named behind
     ])
 
--- a member of a profile's block, behind what the block held before
+-- a member of a profile's block, after what the block held before
 abbrev pub member : Language → List Member → List Placed → Part Member
 member language read [] = Err RanOut
 member language read (token ∷ tokens) =
@@ -111,7 +111,7 @@ next_member language read (token ∷ tokens) =
 abbrev pub profile_block : Language → List Placed → Part (List Member)
 profile_block language tokens = rows (next_member language) tokens
 
--- a profile, behind its name
+-- a profile, after its name
 abbrev pub profile_behind : Language → Named → List Placed → Part Profile
 profile_behind language named tokens =
     followed (head language named tokens) (λ head behind.
@@ -121,7 +121,7 @@ profile_behind language named tokens =
 abbrev pub is_of_name : List ℕ → Profile → Bool
 is_of_name name profile = bytes_eq profile.head.name name
 
--- a profile, behind others of the file
+-- a profile, after others of the file
 abbrev pub profile : Language → List Profile → Placed → List Placed → Part Profile
 profile language read token tokens =
     followed (top_name token tokens) (λ named behind.
@@ -130,11 +130,11 @@ profile language read token tokens =
       | None ↦ profile_behind language named behind
     ])
 
--- what comes next in a file, behind its preamble
+-- what comes next in a file, after its preamble
 abbrev pub next_profile : Language → List Profile → List Placed → Part (Next Profile)
 next_profile language read [] = Ok (End, [])
 next_profile language read (token ∷ tokens) = followed (profile language read token tokens) (λ profile behind. Ok (Item profile, behind))
 
--- the profiles of a file, from the tokens behind its preamble
+-- the profiles of a file, from the tokens after its preamble
 abbrev pub all_profiles : Language → List Placed → Part (List Profile)
 all_profiles language tokens = rows (next_profile language) tokens

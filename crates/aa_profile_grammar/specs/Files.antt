@@ -14,7 +14,7 @@ pub record File : Type 0 where
   pub assignments : List Assignment
   pub profiles : List Profile
 
--- the file of tokens, or what is told of the first fault
+-- the file of tokens, or the error for the first fault
 abbrev pub file : Language → List Placed → Result File GrammarError
 file language tokens = elim (preamble tokens) [
   | Err fault ↦ Err (told fault)

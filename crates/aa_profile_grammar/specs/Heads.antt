@@ -1,4 +1,5 @@
--- Heads of profiles, children and hats: name, attachment, flags and the brace that opens the block (apparmor.d(5), "PROFILES"; docs/policy.md, "Files").
+-- Heads of profiles, children and hats: name, attachment, flags and the brace that opens the block (apparmor.d(5), "PROFILES"; docs/policy.md,
+-- "Files").
 use Rattle.std.specs.Prelude.{ℕ, Bool, ◌&&◌, ◌||◌, if◌then◌else◌, List, [], ◌∷◌, drop, Option, None, Some, Ok, codes}
 use Rattle.aa_bytes.specs.Bytes.{caret, slash}
 use Rattle.aa_bytes.specs.Texts.{begins_with_byte}
@@ -29,7 +30,7 @@ pub record Head : Type 0 where
   pub flag_tokens : List Placed
   pub brace : Placed
 
--- a name behind the word `profile` or `hat`
+-- a name after the word `profile` or `hat`
 abbrev pub name_behind : Form → List Placed → Part Named
 name_behind form tokens = followed (expected is_text tokens) (λ token behind. Ok (record { form = form; name = text_of token; token = token }, behind))
 
@@ -44,7 +45,7 @@ top_name token tokens =
 abbrev pub is_short_hat : Placed → Bool
 is_short_hat token = is_word token.token.kind && begins_with_byte caret (text_of token)
 
--- a token that a child or a hat begins with
+-- a token with which a child or a hat begins
 abbrev pub begins_child : Placed → Bool
 begins_child token = is_word_of (codes "profile") token || is_word_of (codes "hat") token || is_short_hat token
 
@@ -59,7 +60,7 @@ child_name token tokens =
 abbrev pub own_attachment : Named → Option Placed
 own_attachment named = if begins_with_byte slash named.name then Some named.token else None
 
--- The attachment behind a name: behind `profile` a pattern, or the name itself, where it begins with a slash; of a path the path; a hat has none.
+-- The attachment after a name: for `profile` a pattern, or the name itself, where it begins with a slash; for a path the path; a hat has none.
 abbrev pub attachment : Named → List Placed → Option Placed × List Placed
 attachment named tokens = elim named.form [
   | Path ↦ (Some named.token, tokens)
@@ -70,7 +71,7 @@ attachment named tokens = elim named.form [
   ]
 ]
 
--- a head, behind its name
+-- a head, after its name
 abbrev pub head : Language → Named → List Placed → Part Head
 head language named tokens =
     let attached = attachment named tokens in

@@ -1,5 +1,5 @@
--- The tokens of a file's patterns, in their order: attachments, names that are attachments, and the patterns of file rules. A rule
--- that lets all has that of all files twice: once for what is let, and once for how programs are started.
+-- The tokens of a file's patterns, in their order: attachments, names that are attachments, and the patterns of file rules. A rule `all` has that of
+-- all files twice: once for the access letters, and once for how programs are started.
 use Rattle.std.specs.Prelude.{List, [], ◌∷◌, ◌++◌, None, Some}
 use Rattle.std.specs.List.{flat_map}
 use Rattle.aa_profile_grammar.specs.Blocks.{OfChild, OfRule, Child, Member, Profile}

@@ -24,19 +24,18 @@ have_expansions variables tokens = list_all (λ token. is_none (expansion_refusa
 abbrev pub is_counted : List Variable → Placed → Bool
 is_counted variables token = is_none (expansion_refusal variables (text_of token)) && nat_le (length (expansions variables (text_of token))) most_rules
 
--- each of some tokens does
+-- each of some tokens has expansions, and no more than a file may have patterns
 abbrev pub are_counted : List Variable → List Placed → Bool
 are_counted variables tokens = list_all (is_counted variables) tokens
 
--- The first pattern with which a file has too many, where so many come of the tokens before: a token makes one pattern for each of its
--- expansions.
+-- The first pattern with which a file has too many, where the tokens before make so many: a token makes one pattern for each of its expansions.
 abbrev pub too_many : List Variable → ℕ → List Placed → Option Placed
 too_many variables before [] = None
 too_many variables before (token ∷ tokens) =
     let patterns = before + length (expansions variables (text_of token)) in
     if nat_le patterns most_rules then too_many variables patterns tokens else Some token
 
--- its refusal, at this token
+-- the refusal of that token, with its place
 abbrev pub over_limit : List Variable → List Placed → Option ProfileError
 over_limit variables tokens = option_map (λ token. placed TooManyRules (place_of token)) (too_many variables 0 tokens)
 
@@ -45,20 +44,19 @@ abbrev pub collapsed : List ℕ → List ℕ
 collapsed [] = []
 collapsed (b ∷ bs) = if b == slash && begins_with_byte slash bs then collapsed bs else b ∷ collapsed bs
 
--- The refusal of an expansion that makes no pattern: runs of slashes are collapsed before it is read. How long it may be goes by the bytes
--- before that.
+-- The refusal of an expansion that is no pattern: runs of slashes are collapsed before it is read. Its length is counted before that.
 abbrev pub refusal_of_expansion : List ℕ → Option ProfileRefusal
 refusal_of_expansion text =
     if nat_le (length text) longest
     then elim (reading (collapsed text)) [ Ok items ↦ None | Err error ↦ Some (refusal_of_pattern error) ]
     else Some (Pattern TooLong)
 
--- the refusal of the first of some expansions that makes none
+-- the refusal of the first of some expansions that is no pattern
 abbrev pub refusal_of_expansions : List (List ℕ) → Option ProfileRefusal
 refusal_of_expansions [] = None
 refusal_of_expansions (text ∷ texts) = elim (refusal_of_expansion text) [ Some refusal ↦ Some refusal | None ↦ refusal_of_expansions texts ]
 
--- the refusal of a token of which some expansion makes none, at this token
+-- the refusal of a token of which some expansion is no pattern, at this token
 abbrev pub refusal_of_token : List Variable → Placed → Option ProfileError
 refusal_of_token variables token = option_map (λ refusal. placed refusal (place_of token)) (refusal_of_expansions (expansions variables (text_of token)))
 

@@ -1,4 +1,4 @@
--- What may stand before the profiles of a file: assignments of variables, and which version of the language is meant, which decides nothing
+-- What may come before the profiles of a file: assignments of variables, and which version of the language is meant, which decides nothing
 -- (apparmor.d(5), "PREAMBLE"; docs/policy.md, "Files").
 use Rattle.std.specs.Prelude.{ℕ, Bool, true, false, ◌==◌, if◌then◌else◌, List, [], ◌∷◌, take, drop, Result, Ok, Err, codes}
 use Rattle.std.specs.List.{prefix_len}
@@ -22,18 +22,18 @@ abbrev pub is_value : TokenKind → Bool
 is_value Value = true
 is_value _ = false
 
--- how many values tokens begin with
+-- with how many values tokens begin
 abbrev pub value_count : List Placed → ℕ
 value_count tokens = prefix_len (λ token. is_value token.token.kind) tokens
 
--- an assignment, behind its sign: at least one value
+-- an assignment, after its sign: at least one value
 abbrev pub assignment : Placed → Bool → List Placed → Part Assignment
 assignment sign append tokens =
     if value_count tokens == 0
     then Err (unexpected tokens)
     else Ok (record { sign = sign; append = append; values = take (value_count tokens) tokens }, drop (value_count tokens) tokens)
 
--- what stands behind the version of the language, which is a text and a Comma behind the word `abi`
+-- what follows the version of the language, which is a text and a Comma after the word `abi`
 abbrev pub behind_version : List Placed → Result (List Placed) Fault
 behind_version tokens = followed (expected is_text tokens) (λ text behind. behind_comma behind)
 

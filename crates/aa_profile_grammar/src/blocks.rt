@@ -50,7 +50,7 @@ pub struct Profile<'a> {
     pub members: Vec<Member<'a>>,
 }
 
-// The fault of a block's inside: where the tokens run out, its brace is told.
+// The fault within a block: where the tokens run out, it is reported at the block's brace.
 fn closed(brace: Spliced<'_>, fault: Fault) -> Fault
     ensures { result ≡ closed_fault (seen_spliced brace.entry) fault }
 {
@@ -60,7 +60,7 @@ fn closed(brace: Spliced<'_>, fault: Fault) -> Fault
     }
 }
 
-// The refusal of a name, if it has one.
+// The refusal of a name, if it is refused.
 fn refusal_of_name(fits: bool, taken: bool) -> Option<GrammarRefusal>
     ensures { result ≡ refusal_of_name fits taken }
 {
@@ -73,7 +73,7 @@ fn refusal_of_name(fits: bool, taken: bool) -> Option<GrammarRefusal>
     }
 }
 
-// A rule in the block of a child or a hat, in which no other may stand, and what stands behind it.
+// A rule in the block of a child or a hat, in which no other child may be, and what follows it.
 fn read_child_rule<'a>(
     language: Language,
     tokens: &'a [Spliced<'a>],
@@ -91,7 +91,7 @@ fn read_child_rule<'a>(
     }
 }
 
-// What comes next in the block of a child or a hat, and what stands behind it.
+// What comes next in the block of a child or a hat, and what follows it.
 fn next_rule<'a>(language: Language, rest: Rest<'a>) -> Result<(Next<Rule<'a>>, Rest<'a>), Fault>
     ensures ok { IfOk result (IsNext seen_rule (next_rule language) rest.entry) }
     ensures refused { IfErr result (IsFault (next_rule language) rest.entry.tokens.now) }
@@ -111,7 +111,7 @@ fn next_rule<'a>(language: Language, rest: Rest<'a>) -> Result<(Next<Rule<'a>>, 
     Ok((Next::Item(rule), Rest { tokens }))
 }
 
-// The rules in the block of a child or a hat, and what stands behind its closing brace.
+// The rules in the block of a child or a hat, and what follows its closing brace.
 fn read_rules<'a>(
     alloc: Global,
     language: Language,
@@ -134,7 +134,7 @@ fn read_rules<'a>(
     }
 }
 
-// A child or a hat behind its name, and what stands behind its closing brace.
+// A child or a hat after its name, and what follows its closing brace.
 fn read_child_behind<'a>(
     alloc: Global,
     language: Language,
@@ -159,7 +159,7 @@ fn read_child_behind<'a>(
     }
 }
 
-// A child or a hat, from its first token and those behind it, and what stands behind its closing brace.
+// A child or a hat, from its first token and those after it, and what follows its closing brace.
 fn read_child<'a>(
     alloc: Global,
     language: Language,
@@ -178,7 +178,7 @@ fn read_child<'a>(
     }
 }
 
-// A member of a profile's block, and what stands behind it.
+// A member of a profile's block, and what follows it.
 fn read_member<'a>(
     alloc: Global,
     language: Language,
@@ -200,7 +200,7 @@ fn read_member<'a>(
     Ok((Member::OfRule(rule), rest))
 }
 
-// What comes next in the block of a profile, and what stands behind it.
+// What comes next in the block of a profile, and what follows it.
 fn next_member<'a>(
     alloc: Global,
     language: Language,
@@ -225,7 +225,7 @@ fn next_member<'a>(
     Ok((Next::Item(member), Rest { tokens }))
 }
 
-// What the block of a profile holds, and what stands behind its closing brace.
+// What the block of a profile holds, and what follows its closing brace.
 fn read_members<'a>(
     alloc: Global,
     language: Language,
@@ -248,7 +248,7 @@ fn read_members<'a>(
     }
 }
 
-// A profile behind its name, and what stands behind its closing brace.
+// A profile after its name, and what follows its closing brace.
 fn read_profile_behind<'a>(
     alloc: Global,
     language: Language,
@@ -266,7 +266,7 @@ fn read_profile_behind<'a>(
     }
 }
 
-// A profile, from its first token and those behind it, and what stands behind its closing brace.
+// A profile, from its first token and those after it, and what follows its closing brace.
 fn read_profile<'a>(
     alloc: Global,
     language: Language,
@@ -285,7 +285,7 @@ fn read_profile<'a>(
     }
 }
 
-// What comes next in a file behind its preamble, and what stands behind it.
+// What comes next in a file after its preamble, and what follows it.
 fn next_profile<'a>(
     alloc: Global,
     language: Language,
@@ -303,7 +303,7 @@ fn next_profile<'a>(
     Ok((Next::Item(profile), Rest { tokens }))
 }
 
-/// The profiles of a file, from the tokens behind its preamble, and what stands behind them, which is nothing.
+/// The profiles of a file, from the tokens after its preamble, and what follows them, which is nothing.
 ///
 /// # Errors
 ///

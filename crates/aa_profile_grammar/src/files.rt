@@ -22,21 +22,21 @@ pub struct File<'a> {
     pub profiles: Vec<Profile<'a>>,
 }
 
-/// A profile's file as its tokens write it, by a language.
+/// Reads a profile's file from its tokens, by a language.
 ///
 /// # Errors
 ///
 /// The first fault, at the first token, from the left, that the grammar doesn't take at its place (docs/policy.md, "Files").
-/// - `BadToken`: a token that can't stand there; without a place where the tokens run out outside of a block.
+/// - `BadToken`: a token that the grammar doesn't take at its place; without a place where the tokens run out outside of a block.
 /// - `OpenBlock`: the tokens run out in a block; at the innermost brace that isn't closed.
 /// - `BadFlag`, `BadAccess`, `TwoExec`, `ExecQualifier`, `WriteAppend`, `BadName`: the token that holds the flag, the access, the name or the
 ///   target.
 /// - `TargetWithoutExec`: the word `->`.
-/// - `LeftOut`: the token of what AppArmor has and isn't read here; in language 4.
+/// - `LeftOut`: the token of something that AppArmor has and isn't read here; in language 4.
 /// - `BadCapability`, `BadNetwork`: the word of the rule that is at fault.
 /// - `TwiceNamed`: the token of a name that another profile of the file has, or another child or hat of the profile.
-/// - `NestedChild`: the word that a child within a child begins with.
-/// - `LateAssignment`: an assignment behind a profile.
+/// - `NestedChild`: the word with which a child within a child begins.
+/// - `LateAssignment`: an assignment after a profile.
 /// - `NoProfile`, without a place: the file has no profile.
 /// - `Memory`, without a place: memory ran out.
 pub fn read_file<'a>(
@@ -57,7 +57,7 @@ pub fn read_file<'a>(
     }
 }
 
-// The profiles of a file, of which there must be one, from the tokens behind its preamble.
+// The profiles of a file, of which there must be one, from the tokens after its preamble.
 fn read_some_profiles<'a>(
     alloc: Global,
     language: Language,

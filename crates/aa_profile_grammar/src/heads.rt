@@ -45,7 +45,7 @@ pub struct Head<'a> {
     pub name: &'a [u8],
     /// The token of the name.
     pub token: Spliced<'a>,
-    /// The token of the pattern of the programs that it is attached to, if there is one.
+    /// The token of the pattern of the programs that it attaches to, if there is one.
     pub attachment: Option<Spliced<'a>>,
     /// The flags that decide something.
     pub flags: Flags,
@@ -55,7 +55,7 @@ pub struct Head<'a> {
     pub brace: Spliced<'a>,
 }
 
-// A name behind the word `profile` or `hat`, and what stands behind it.
+// A name after the word `profile` or `hat`, and what follows it.
 fn read_name<'a>(
     form: Form,
     tokens: &'a [Spliced<'a>],
@@ -69,7 +69,7 @@ fn read_name<'a>(
     Ok((Named { form, name, token }, behind))
 }
 
-// How a profile that isn't within another begins, from its first token and those behind it, and what stands behind that.
+// How a profile that isn't within another begins, from its first token and those after it, and what follows that.
 pub fn read_top_name<'a>(
     token: Spliced<'a>,
     tokens: &'a [Spliced<'a>],
@@ -112,7 +112,7 @@ pub fn begins_child(token: Spliced<'_>) -> bool
     is_word_of(b"profile", token) || is_word_of(b"hat", token) || is_short_hat(token)
 }
 
-// How a child or a hat begins, from its first token and those behind it, and what stands behind that.
+// How a child or a hat begins, from its first token and those after it, and what follows that.
 pub fn read_child_name<'a>(
     token: Spliced<'a>,
     tokens: &'a [Spliced<'a>],
@@ -138,7 +138,7 @@ pub fn read_child_name<'a>(
     ))
 }
 
-// The token of the attachment behind a name, and what stands behind it.
+// The token of the attachment after a name, and what follows it.
 fn read_attachment<'a>(
     named: Named<'a>,
     tokens: &'a [Spliced<'a>],
@@ -165,7 +165,7 @@ fn read_attachment<'a>(
     }
 }
 
-// The head behind its name, and what stands behind its brace.
+// The head after its name, and what follows its brace.
 pub fn read_head<'a>(
     language: Language,
     named: Named<'a>,

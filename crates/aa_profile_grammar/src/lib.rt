@@ -1,5 +1,6 @@
-//! The grammar of a profile's file: assignments, profiles with their heads, children and hats, and rules as they are written; the patterns of a file, as its
-//! tokens and its variables make them; and where what is made of them is written.
+//! The grammar of a profile's file: assignments, profiles with their heads, children and hats, and rules as they are written; the patterns of a
+//! file, as its tokens and variables make them; and the places where all of these are written. `read_file` reads the tokens of a file; what it
+//! returns borrows them.
 #![tactic(auto)]
 
 mod blocks;

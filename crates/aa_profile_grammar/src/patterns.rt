@@ -1,4 +1,4 @@
-//! The patterns of a file, as its tokens and its variables make them.
+//! The patterns of a file, as its tokens and variables make them.
 
 ghost use Rattle.std.specs.Prelude.{◌≡◌, ◌≢◌, ◌∷◌, [], Ok, Err, None, Some, IfOk, IfErr, OnOk, true, map};
 ghost use Rattle.std.specs.Option.{option_map};
@@ -17,10 +17,10 @@ use aa_text_tokens::Spliced;
 use aa_text_variables::ExpansionTable;
 use std::alloc::Global;
 
-/// How many patterns a file may have.
+/// How many patterns a file may have, each expansion counted.
 pub const MOST_RULES: usize = 16_384;
 
-/// Whether tokens make no more patterns than a file may have.
+/// Checks that tokens make no more patterns than a file may have.
 ///
 /// # Errors
 ///
@@ -44,7 +44,7 @@ pub fn check_limit(
     Ok(())
 }
 
-// Makes each run of slashes of a text one slash.
+// Collapses each run of slashes of a text to one slash.
 fn collapse(text: &mut Vec<u8>)
     ensures { text.new.items ≡ collapsed text.old.items }
 {
@@ -65,7 +65,7 @@ fn read_expansion(text: Vec<u8>) -> Result<Pattern, ProfileRefusal>
     Ok(Pattern::from_vec(text)?)
 }
 
-// The patterns of expansions, or the refusal of the first that makes none, at a place.
+// The patterns of expansions, or the refusal of the first that is no pattern, at a place.
 fn read_expansions(
     alloc: Global,
     place: Place,
@@ -85,12 +85,12 @@ fn read_expansions(
     Ok(patterns)
 }
 
-/// The patterns of a token, one for each of its expansions.
+/// The patterns of a token, one for each of its expansions, with runs of slashes collapsed.
 ///
 /// # Errors
 ///
-/// As `Pattern::read` refuses the first expansion that is no pattern, once its runs of slashes are collapsed; `TooLong` goes by the bytes
-/// before that. It is told at the token. `Memory`, without a place: memory ran out.
+/// As `Pattern::read` refuses the first expansion that is no pattern, once its runs of slashes are collapsed; `TooLong` counts the bytes before
+/// that. The place is that of the token. `Memory`, without a place: memory ran out.
 pub fn read_patterns(
     alloc: Global,
     table: &mut ExpansionTable<'_>,

@@ -1,16 +1,16 @@
-//! Where a profile, a child or a hat has what it has, and what of it decides nothing.
+//! The places of the attachment and rules of a profile, a child or a hat, and its flags that decide nothing.
 
 use aa_bytes::Sequence;
 use aa_text_files::Place;
 
-/// Where the attachment and the rules of a profile, a child or a hat are written: each at the token of its file, or of one that that includes, that it
-/// is made of. Beside these stand its flags that decide nothing, which no profile holds.
+/// Where the attachment and the rules of a profile, a child or a hat are written: each at the token from which it is made, in its file or in one
+/// that this includes. With them are its flags that decide nothing, which no profile holds.
 pub struct SectionPlaces {
-    /// The place of its attachment, of which all its patterns are made; none where it has none.
+    /// The place of its attachment, of which all its patterns are made; `None` where it has no attachment.
     pub attachment: Option<Place>,
-    /// The place of each of its rules, in their order. A rule that is kept and has no token has none; of files there is no such.
+    /// The place of each of its rules, in their order. A kept rule without a token has none; files have no such rule.
     pub rules: Sequence<Option<Place>>,
-    /// Its flags that decide nothing, each as it is written, in their order, and as often as it stands there.
+    /// Its flags that decide nothing, each as it is written, in their order, and as often as it is written.
     pub flags: Sequence<Sequence<u8>>,
 }
 
@@ -27,11 +27,11 @@ impl Drop for SectionPlaces {
     }
 }
 
-/// Where a profile has what it has, and where its children and hats do.
+/// The places of a profile, and of its children and hats.
 pub struct ProfilePlaces {
-    /// Where the profile itself does.
+    /// The places of the profile itself.
     pub own: SectionPlaces,
-    /// The same of each of its children and hats, in the order of these.
+    /// The places of each of its children and hats, in their order.
     pub children: Sequence<SectionPlaces>,
 }
 

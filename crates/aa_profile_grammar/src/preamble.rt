@@ -1,4 +1,4 @@
-//! What may stand before the profiles of a file.
+//! What may come before the profiles of a file: assignments and `abi` lines.
 
 ghost use Rattle.std.specs.Prelude.{◌≡◌, ◌<◌, ◌≤◌, Ok, IfOk, IfErr, false, length};
 ghost use Rattle.aa_text_tokens.specs.SeenSplicedTokens.{seen_spliced};
@@ -25,7 +25,7 @@ pub struct Assignment<'a> {
     pub values: &'a [Spliced<'a>],
 }
 
-// How many values tokens begin with.
+// With how many values tokens begin.
 fn value_count(tokens: &[Spliced<'_>]) -> usize
     ensures count { result ≡ value_count (seen_tokens tokens.now) }
     ensures within { result ≤ length tokens.now }
@@ -42,7 +42,7 @@ fn value_count(tokens: &[Spliced<'_>]) -> usize
     count
 }
 
-// The assignment behind its sign, and what stands behind it.
+// The assignment after its sign, and what follows it.
 fn read_assignment<'a>(
     sign: Spliced<'a>,
     append: bool,
@@ -66,7 +66,7 @@ fn read_assignment<'a>(
     ))
 }
 
-// What stands behind the version of the language: a text and a Comma.
+// What follows the version of the language (`abi`): a text and a Comma.
 pub fn read_version<'a>(tokens: &'a [Spliced<'a>]) -> Result<&'a [Spliced<'a>], Fault>
     ensures ok { IfOk result (λ behind. behind_version (seen_tokens tokens.now) ≡ Ok (seen_tokens behind.now)) }
     ensures refused { IfErr result (IsFault behind_version tokens.now) }
@@ -76,7 +76,7 @@ pub fn read_version<'a>(tokens: &'a [Spliced<'a>]) -> Result<&'a [Spliced<'a>], 
     read_comma(behind)
 }
 
-// What comes next before the profiles, where it is no assignment, and what stands behind it.
+// What comes next before the profiles, where it is no assignment, and what follows it.
 fn next_version<'a>(rest: Rest<'a>) -> Result<(Next<Assignment<'a>>, Rest<'a>), Fault>
     ensures ok { IfOk result (IsNext seen_assignment version_or_end rest.entry) }
     ensures refused { IfErr result (IsFault version_or_end rest.entry.tokens.now) }
@@ -91,7 +91,7 @@ fn next_version<'a>(rest: Rest<'a>) -> Result<(Next<Assignment<'a>>, Rest<'a>), 
     }
 }
 
-// What comes next before the profiles, and what stands behind it.
+// What comes next before the profiles, and what follows it.
 fn next_assignment<'a>(rest: Rest<'a>) -> Result<(Next<Assignment<'a>>, Rest<'a>), Fault>
     ensures ok { IfOk result (IsNext seen_assignment next_assignment rest.entry) }
     ensures refused { IfErr result (IsFault next_assignment rest.entry.tokens.now) }
@@ -107,7 +107,7 @@ fn next_assignment<'a>(rest: Rest<'a>) -> Result<(Next<Assignment<'a>>, Rest<'a>
     Ok((Next::Item(assignment), Rest { tokens }))
 }
 
-/// The assignments before the profiles, and what stands behind them.
+/// The assignments before the profiles, and what follows them.
 ///
 /// # Errors
 ///

@@ -54,8 +54,8 @@ fn place_of_attachment(head: &Head<'_>) -> Option<Place>
     }
 }
 
-/// How many rules a written one makes: a file rule one for each expansion of its pattern, one that lets all five, and any other one. The caller
-/// sees to it that the pattern has expansions, and no more than a file may have rules.
+/// How many rules a written rule makes: a file rule one for each expansion of its pattern, the rule `all` five, and any other one. The caller makes
+/// sure that the pattern has expansions, and no more than a file may have rules.
 ///
 /// # Errors
 ///
@@ -75,7 +75,7 @@ pub fn rule_count(table: &mut ExpansionTable<'_>, rule: &Rule<'_>) -> Result<usi
     }
 }
 
-// Appends a place so many times.
+// Appends a place `count` times.
 fn push_times(
     place: Option<Place>,
     count: usize,
@@ -89,7 +89,7 @@ fn push_times(
     Ok(())
 }
 
-// Appends the places of the rules that a written one makes.
+// Appends the places of the rules that a written rule makes.
 fn push_rule(
     table: &mut ExpansionTable<'_>,
     rule: &Rule<'_>,
@@ -103,7 +103,7 @@ fn push_rule(
     push_times(place_of_rule(rule), count, places)
 }
 
-// The places of the rules that written ones make.
+// The places of the rules that written rules make.
 fn read_rules(
     alloc: Global,
     table: &mut ExpansionTable<'_>,
@@ -122,7 +122,7 @@ fn read_rules(
     Ok(places)
 }
 
-// Where a block has what it has, by its head and the places of its rules.
+// The places of a block, by its head and the places of its rules.
 fn section_places(
     alloc: Global,
     language: Language,
@@ -138,7 +138,7 @@ fn section_places(
     })
 }
 
-// Where a child or a hat has what it has.
+// The places of a child or a hat.
 fn child_places(
     alloc: Global,
     language: Language,
@@ -176,7 +176,7 @@ fn push_member(
     }
 }
 
-// Where a profile has what it has, and where its children and hats do.
+// The places of a profile, and of its children and hats.
 fn profile_places(
     alloc: Global,
     language: Language,
@@ -225,7 +225,7 @@ fn push_members(
     Ok(())
 }
 
-// Appends where a profile has what it has, and where its children and hats do.
+// Appends the places of a profile, and of its children and hats.
 fn push_profile(
     alloc: Global,
     language: Language,
@@ -241,10 +241,10 @@ fn push_profile(
     Ok(())
 }
 
-/// Where the profiles of a file, their children and their hats have what they have, in their order: an attachment stands where its token does, a rule on
-/// files where that of its pattern does, or the word `file` alone, and any other rule where its word does. Each place is a byte offset in the file
-/// or in one that that includes. One written rule may make several; each of them stands where that is written. The flags of each that decide
-/// nothing stand beside. The caller sees to it that each pattern has expansions, and no more than a file may have rules.
+/// The places of the profiles of a file, of their children and their hats, in their order: an attachment is at its token, a rule on files at the
+/// token of its pattern, or at the word `file` alone, and any other rule at its word. Each place is a byte offset in the file or in one that this
+/// includes. All rules that one written rule makes are at its place. With the places are the flags of each that decide nothing. The caller makes
+/// sure that each pattern has expansions, and no more than a file may have rules.
 ///
 /// # Errors
 ///

@@ -1,4 +1,4 @@
-//! Parts of one kind in a row.
+//! Parts of one kind, one after the other.
 
 use aa_text_tokens::Spliced;
 
@@ -9,13 +9,13 @@ pub struct Rest<'a> {
     pub tokens: &'a [Spliced<'a>],
 }
 
-/// What comes next in a row.
+/// What comes next in a list of parts.
 #[derive(Drop)]
 pub enum Next<T> {
-    /// An item of the row.
+    /// An item of the list.
     Item(T),
     /// Something that isn't kept.
     Nothing,
-    /// The end of the row.
+    /// The end of the list.
     End,
 }

@@ -1,4 +1,4 @@
-//! Parts of a file that were read so far, and their names, of which it is told without going through all parts whether one is there.
+//! Parts of a file that were read so far, with their names, so that a name is found without going through all parts.
 
 ghost use Rattle.std.specs.Prelude.{◌≡◌, ◌++◌, ◌∷◌, [], IfOk, OnOk, map};
 ghost use Rattle.std.specs.List.{list_any};
@@ -22,7 +22,7 @@ pub struct ProfilesSoFar<'a> {
 }
 
 impl<'a> ProfilesSoFar<'a> {
-    /// None.
+    /// No profile.
     pub fn new(alloc: Global) -> ProfilesSoFar<'a>
         ensures { result.items.items ≡ [] }
     {
@@ -32,14 +32,18 @@ impl<'a> ProfilesSoFar<'a> {
         }
     }
 
-    /// Whether one has this name.
+    /// Whether one of the profiles has this name. It takes no memory; `O(log n)` comparisons of names.
     pub fn has(&self, name: &[u8]) -> bool
         ensures { result ≡ list_any (is_of_name name.now) (map seen_profile self.now.items.items) }
     {
         self.names.contains(name)
     }
 
-    /// One more, behind the others.
+    /// The profiles with one more after the others.
+    ///
+    /// # Errors
+    ///
+    /// Where memory runs out.
     pub fn with(self, profile: Profile<'a>) -> Result<ProfilesSoFar<'a>, AllocError>
         ensures { IfOk result (λ more. more.items.items ≡ self.entry.items.items ++ profile.entry ∷ []) }
     {
@@ -53,7 +57,7 @@ impl<'a> ProfilesSoFar<'a> {
     }
 }
 
-// Notes the name of a member of a block, if it is a child or a hat.
+// Adds the name of a member of a block, if it is a child or a hat.
 fn note<'a>(names: &mut BTreeSet<&'a [u8]>, member: &Member<'a>) -> Result<(), AllocError>
     ensures { OnOk result (AreNamedWith names.old member.now names.new) }
 {
@@ -77,7 +81,7 @@ pub struct MembersSoFar<'a> {
 }
 
 impl<'a> MembersSoFar<'a> {
-    /// None.
+    /// No member.
     pub fn new(alloc: Global) -> MembersSoFar<'a>
         ensures { result.items.items ≡ [] }
     {
@@ -87,14 +91,18 @@ impl<'a> MembersSoFar<'a> {
         }
     }
 
-    /// Whether a child or a hat among them has this name.
+    /// Whether a child or a hat among the members has this name. It takes no memory; `O(log n)` comparisons of names.
     pub fn has(&self, name: &[u8]) -> bool
         ensures { result ≡ list_any (is_child_of_name name.now) (map seen_member self.now.items.items) }
     {
         self.names.contains(name)
     }
 
-    /// One more, behind the others.
+    /// The members with one more after the others.
+    ///
+    /// # Errors
+    ///
+    /// Where memory runs out.
     pub fn with(self, member: Member<'a>) -> Result<MembersSoFar<'a>, AllocError>
         ensures { IfOk result (λ more. more.items.items ≡ self.entry.items.items ++ member.entry ∷ []) }
     {

@@ -12,7 +12,7 @@ use aa_profile_rules::{Rule, all_files};
 use aa_text_tokens::Spliced;
 use std::alloc::{AllocFailed, Global};
 
-// Puts the token of a head's attachment behind others.
+// Appends the token of a head's attachment.
 fn push_head<'a>(
     head: &Head<'a>,
     tokens: &mut Vec<Spliced<'a>>,
@@ -25,7 +25,7 @@ fn push_head<'a>(
     Ok(())
 }
 
-// Puts those of a rule behind others.
+// Appends the tokens of a rule's patterns.
 fn push_rule<'a>(
     rule: &Rule<'a>,
     tokens: &mut Vec<Spliced<'a>>,
@@ -42,7 +42,7 @@ fn push_rule<'a>(
     }
 }
 
-// Puts those of rules behind others.
+// Appends the tokens of the patterns of rules.
 fn push_rules<'a>(
     rules: &[Rule<'a>],
     tokens: &mut Vec<Spliced<'a>>,
@@ -57,7 +57,7 @@ fn push_rules<'a>(
     Ok(())
 }
 
-// Puts those of a child or a hat behind others.
+// Appends the tokens of the patterns of a child or a hat.
 fn push_child<'a>(
     child: &Child<'a>,
     tokens: &mut Vec<Spliced<'a>>,
@@ -68,7 +68,7 @@ fn push_child<'a>(
     push_rules(&child.rules, tokens)
 }
 
-// Puts those of a member of a block behind others.
+// Appends the tokens of the patterns of a member of a block.
 fn push_member<'a>(
     member: &Member<'a>,
     tokens: &mut Vec<Spliced<'a>>,
@@ -81,7 +81,7 @@ fn push_member<'a>(
     }
 }
 
-// Puts those of a block's members behind others.
+// Appends the tokens of the patterns of a block's members.
 fn push_members<'a>(
     members: &[Member<'a>],
     tokens: &mut Vec<Spliced<'a>>,
@@ -96,7 +96,7 @@ fn push_members<'a>(
     Ok(())
 }
 
-// Puts those of a profile behind others.
+// Appends the tokens of the patterns of a profile.
 fn push_profile<'a>(
     profile: &Profile<'a>,
     tokens: &mut Vec<Spliced<'a>>,

@@ -1,5 +1,5 @@
 -- FLAGS of a profile, a child or a hat (apparmor.d(5), "Profile Flags"; docs/policy.md, "Flags"): words and commas before its brace, which make one
--- text, each behind the one before with a blank between them: nothing, or `(`, flags, `)`, where `flags =` may stand before it.
+-- text, with a blank between each two: nothing, or `(`, flags, `)`, where `flags =` may come before.
 use Rattle.std.specs.Prelude.{ℕ, Bool, true, false, not, ◌==◌, ◌||◌, if◌then◌else◌, List, [], ◌∷◌, take, drop, Option, None, Some, Result, Ok, Err, codes}
 use Rattle.std.specs.List.{list_any, prefix_len, slice_split}
 use Rattle.std.specs.Str.{bytes_eq}
@@ -26,7 +26,7 @@ idle_names =
     codes "attach_disconnected" ∷ codes "no_attach_disconnected" ∷ codes "chroot_relative" ∷ codes "namespace_relative" ∷ codes "chroot_attach" ∷
     codes "chroot_no_attach" ∷ codes "mediate_deleted" ∷ codes "delegate_deleted" ∷ codes "debug" ∷ codes "interruptible" ∷ []
 
--- a flag that decides nothing in each language
+-- a flag that decides nothing in both languages
 abbrev pub is_idle_in_all : List ℕ → Bool
 is_idle_in_all word = list_any (bytes_eq word) idle_names || begins_with (codes "attach_disconnected.path=") word
 
@@ -42,7 +42,7 @@ name_of_mode Complain = codes "complain"
 name_of_mode Unconfined = codes "unconfined"
 name_of_mode DefaultAllow = codes "default_allow"
 
--- the mode flag that a word is which not each language has
+-- the mode flag that a word is in language 4 alone
 abbrev pub wider_mode_flag : Language → List ℕ → Option ModeFlag
 wider_mode_flag Three word = None
 wider_mode_flag Four word =
@@ -69,19 +69,19 @@ same_mode _ _ = false
 abbrev pub unflagged : Flags
 unflagged = record { mode = None; audit = false }
 
--- Flags and a mode flag. It may stand twice, but two different ones may not.
+-- Flags and a mode flag. It may be repeated, but two different ones are refused.
 abbrev pub with_mode : Flags → ModeFlag → Result Flags GrammarRefusal
 with_mode flags mode = elim flags.mode [
   | None ↦ Ok (record { mode = Some mode; audit = flags.audit })
   | Some before ↦ if same_mode before mode then Ok flags else Err BadFlag
 ]
 
--- the refusal of a word that is no flag: what AppArmor has and isn't read here is told as that
+-- the refusal of a word that is no flag: `LeftOut` for what AppArmor has and isn't read here
 abbrev pub refusal_of_word : Language → List ℕ → GrammarRefusal
 refusal_of_word Three word = BadFlag
 refusal_of_word Four word = if bytes_eq word (codes "kill") || bytes_eq word (codes "prompt") then LeftOut else BadFlag
 
--- flags and one more, if it is one
+-- flags and the flag of a word, if it is one
 abbrev pub with_flag : Language → Flags → List ℕ → Result Flags GrammarRefusal
 with_flag language flags word = elim (mode_flag language word) [
   | Some mode ↦ with_mode flags mode
@@ -91,11 +91,11 @@ with_flag language flags word = elim (mode_flag language word) [
       Err (refusal_of_word language word)
 ]
 
--- flags and one more, if there is one: between two separators may stand none
+-- flags and the flag of a word, if there is one: between two separators may be none
 abbrev pub with_item : Language → Flags → List ℕ → Result Flags GrammarRefusal
 with_item language flags word = if is_empty word then Ok flags else with_flag language flags word
 
--- flags and those of a list, or the refusal of the first that can't stand there
+-- flags and those of a list, or the refusal of the first word that is none
 abbrev pub with_flags : Language → Flags → List (List ℕ) → Result Flags GrammarRefusal
 with_flags language flags [] = Ok flags
 with_flags language flags (word ∷ words) = elim (with_item language flags word) [ Err refusal ↦ Err refusal | Ok more ↦ with_flags language more words ]
@@ -104,7 +104,7 @@ with_flags language flags (word ∷ words) = elim (with_item language flags word
 abbrev pub separates : ℕ → Bool
 separates b = is_blank b || b == comma
 
--- the list goes on: flags, up to the first `)`, behind which nothing stands
+-- the list continues: flags, up to the first `)`, which must end the text
 abbrev pub listed : Language → Flags → List ℕ → Result FlagsSoFar GrammarRefusal
 listed language flags text =
     let size = prefix_len (λ b. not (b == closing_parenthesis)) text in
@@ -131,7 +131,7 @@ behind_keyword language text =
     if begins_with_byte equals text then behind_sign language (drop 1 text) else
     Err BadToken
 
--- one more word, behind what was read
+-- one more word, after what was read
 abbrev pub with_word : Language → FlagsSoFar → List ℕ → Result FlagsSoFar GrammarRefusal
 with_word language Absent text = if begins_with (codes "flags") text then behind_keyword language (drop 5 text) else opened language text
 with_word language Keyword text = behind_keyword language text
@@ -152,13 +152,13 @@ with_token language before token = elim token.token.kind [
   | _ ↦ Err BadToken
 ]
 
--- the flags where the brace stands
+-- the flags where the brace comes
 abbrev pub finished : FlagsSoFar → Option Flags
 finished Absent = Some unflagged
 finished (Closed flags) = Some flags
 finished _ = None
 
--- FLAGS behind what was read of them, and the brace that ends them
+-- FLAGS after what was read of them, and the brace that ends them
 abbrev pub flags_behind : Language → FlagsSoFar → List Placed → Part (Flags × Placed)
 flags_behind language before [] = Err RanOut
 flags_behind language before (token ∷ tokens) = elim token.token.kind [

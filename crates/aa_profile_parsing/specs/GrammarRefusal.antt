@@ -1,4 +1,4 @@
--- The refusals of a file's grammar: each one's number and name (docs/commands.md, "Refusals").
+-- The refusals of a file's grammar: the number and name of each (docs/commands.md, "Refusals").
 use Rattle.std.specs.Prelude.{ℕ, List, codes}
 use Rattle.aa_profile_parsing.specs.declared.fault.GrammarRefusal.{GrammarRefusal}
 use Rattle.aa_profile_parsing.specs.declared.fault.GrammarRefusal.TheVariants.{BadToken, OpenBlock, BadFlag, BadAccess, WriteAppend, TwoExec, ExecQualifier, TargetWithoutExec, BadCapability, BadNetwork, TwiceNamed, NestedChild, LateAssignment, NoProfile, BadName, LeftOut, Memory}

@@ -1,4 +1,4 @@
--- Which words stand in FLAGS: what the law on flags that are kept speaks of.
+-- Which words are in FLAGS: definitions for the law on flags that are kept.
 use Rattle.std.specs.Prelude.{ℕ, Bool, false, ◌&&◌, ◌||◌, List, Option, None, Some, codes}
 use Rattle.std.specs.Str.{bytes_eq}
 use Rattle.aa_profile_parsing.specs.FlagText.{has_word}

@@ -1,5 +1,5 @@
--- Why a profile's file is refused: each refusal's number and name (docs/commands.md, "Refusals"). Those of the layers below stand in the
--- tables of these.
+-- Why a profile's file is refused: the number and name of each refusal (docs/commands.md, "Refusals"). Those of the layers below are in their
+-- tables.
 use Rattle.std.specs.Prelude.{ℕ, List, codes, None, Some}
 use Rattle.aa_text_files.specs.TextError.{described as described_text}
 use Rattle.aa_text_files.specs.declared.text_error.Place.{Place}
@@ -37,12 +37,12 @@ name_of refusal = (described refusal).1
 abbrev pub plain : ProfileRefusal → ProfileError
 plain refusal = record { refusal = refusal; place = None }
 
--- a refusal at a place; want of memory has none
+-- a refusal at a place; `Memory` has none
 abbrev pub placed : ProfileRefusal → Place → ProfileError
 placed Memory place = plain Memory
 placed refusal place = record { refusal = refusal; place = Some place }
 
--- The refusals of the layers below, as those of a file. Want of memory is one refusal of a file, so none of these gives `Pattern Memory`,
+-- The refusals of the layers below, as those of a file. Running out of memory is one refusal of a file, so none of these gives `Pattern Memory`,
 -- `Text Memory` or `Grammar Memory`.
 
 -- the refusal of a file whose pattern is refused; no file that is read holds a zero byte
@@ -61,7 +61,7 @@ abbrev pub refusal_of_grammar : GrammarRefusal → ProfileRefusal
 refusal_of_grammar grammar.Memory = Memory
 refusal_of_grammar refusal = Grammar refusal
 
--- the same two with their places
+-- the refusals of text and of grammar with their places
 abbrev pub error_of_text : TextError → ProfileError
 error_of_text error = record { refusal = refusal_of_text error.refusal; place = error.place }
 

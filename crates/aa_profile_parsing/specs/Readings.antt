@@ -1,4 +1,4 @@
--- What the code gives for a part of the grammar: what was read and the tokens behind it, or a fault.
+-- What the code returns for a part of the grammar: what was read and the tokens after it, or a fault.
 use Rattle.std.specs.Prelude.{◌≡◌, ◌≢◌, List, Result, Ok, Err}
 use denote.Ref.{Bor}
 use Rattle.aa_text_tokens.specs.Splicing.{Placed}
@@ -8,7 +8,7 @@ use Rattle.aa_profile_parsing.specs.SeenTokens.{seen_tokens}
 use Rattle.aa_profile_parsing.specs.declared.fault.Fault.{Fault}
 use Rattle.aa_profile_parsing.specs.declared.fault.Fault.TheVariants.{Memory}
 
--- what was read, as the definitions see it, and the tokens behind it are what a part reads in tokens
+-- what was read, as the definitions see it, and the tokens after it are what a part reads in tokens
 abbrev pub IsRead : {A B : Type 0} → (A → B) → (List Placed → Part B) → List Spliced → A × Bor (List Spliced) → Type 0
 IsRead seen part tokens read = part (seen_tokens tokens) ≡ Ok (seen read.0, seen_tokens read.1.now)
 

@@ -40,11 +40,11 @@ is_close_brace _ = false
 abbrev pub is_word_of : List ℕ → Placed → Bool
 is_word_of text placed = is_word placed.token.kind && bytes_eq (text_of placed) text
 
--- a word, or a text in quotes
+-- a word, or a quoted text
 abbrev pub is_text : Placed → Bool
 is_text placed = is_word placed.token.kind || is_quoted placed.token.kind
 
--- a pattern: a text in quotes, or a word that begins with `/` or `@`
+-- a pattern: a quoted text, or a word that begins with `/` or `@`
 abbrev pub is_pattern : Placed → Bool
 is_pattern placed =
     is_quoted placed.token.kind ||

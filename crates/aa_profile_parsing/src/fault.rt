@@ -1,4 +1,4 @@
-//! Why a file's grammar can't go on.
+//! Why a part of a file's grammar can't be read.
 
 ghost use Rattle.std.specs.Prelude.{◌≡◌};
 ghost use Rattle.aa_text_tokens.specs.SeenSplicedTokens.{seen_spliced};
@@ -14,13 +14,13 @@ use std::alloc::{AllocError, AllocFailed};
 /// What is wrong in the grammar of a file.
 #[derive(Clone, Copy, Debug, PartialEq, Eq)]
 pub enum GrammarRefusal {
-    /// A token that can't stand there.
+    /// A token that the grammar doesn't take at its place.
     BadToken,
     /// A block that isn't closed.
     OpenBlock,
     /// A flag that isn't known, or two different modes.
     BadFlag,
-    /// An access that holds what is no access letter and no exec word.
+    /// An access with something that is neither an access letter nor an exec word.
     BadAccess,
     /// The letters `w` and `a` in one access.
     WriteAppend,
@@ -28,23 +28,23 @@ pub enum GrammarRefusal {
     TwoExec,
     /// An exec word in a deny rule, or a bare `x` in another.
     ExecQualifier,
-    /// A target in a rule that can have none.
+    /// A target in a rule that may have none.
     TargetWithoutExec,
     /// A word of a capability rule that is no capability.
     BadCapability,
-    /// A word of a network rule that is no domain, type or protocol, or can't stand there.
+    /// A word of a network rule that is no domain, type or protocol, or that may not come there.
     BadNetwork,
-    /// A second profile of a name, or child or hat of a name within a profile.
+    /// A second profile of a name, or a second child or hat of a name in one profile.
     TwiceNamed,
     /// A child within a child.
     NestedChild,
-    /// An assignment behind a profile.
+    /// An assignment after a profile.
     LateAssignment,
     /// A file without a profile.
     NoProfile,
-    /// A name that none may have.
+    /// A name that a profile, child, hat or target may not have.
     BadName,
-    /// What AppArmor has and isn't read here.
+    /// Something that AppArmor has and isn't read here.
     LeftOut,
     /// Memory ran out.
     Memory,
@@ -109,7 +109,7 @@ pub enum Fault {
     At {
         /// What is wrong.
         refusal: GrammarRefusal,
-        /// Where that token begins.
+        /// The place where that token begins.
         place: Place,
     },
     /// The tokens ran out within the part.

@@ -16,29 +16,29 @@ use crate::language::Language;
 use aa_bytes::{begins_with, behind, length_while};
 use aa_text_tokens::{Spliced, TokenKind};
 
-/// A flag that says what becomes of what the rules don't allow.
+/// A flag that says what happens to what the rules don't allow.
 #[derive(Clone, Copy, Debug, PartialEq, Eq)]
 pub enum ModeFlag {
-    /// It is refused; this is so without such a flag.
+    /// What the rules don't allow is refused, as it is without such a flag.
     Enforce,
-    /// It is let through, and logged.
+    /// What the rules don't allow is let through, and logged.
     Complain,
-    /// No rule is asked.
+    /// Everything is allowed: no rule is looked at.
     Unconfined,
-    /// The same.
+    /// As `Unconfined`.
     DefaultAllow,
 }
 
 /// The flags of a profile, a child or a hat that decide something.
 #[derive(Clone, Copy)]
 pub struct Flags {
-    /// What becomes of what the rules don't allow; none where no flag says it.
+    /// What happens to what the rules don't allow; `None` where no flag says so.
     pub mode: Option<ModeFlag>,
     /// What the rules decide is logged.
     pub audit: bool,
 }
 
-/// What of FLAGS was read.
+/// How much of FLAGS was read.
 #[derive(Clone, Copy)]
 pub enum FlagsSoFar {
     /// Nothing.
@@ -63,7 +63,7 @@ fn unflagged() -> Flags
     }
 }
 
-// Whether a word is a flag that decides nothing in each language.
+// Whether a word is a flag that decides nothing in both languages.
 fn is_idle_in_all(word: &[u8]) -> bool
     ensures { result ≡ is_idle_in_all word.now }
 {
@@ -94,7 +94,7 @@ pub fn is_idle(language: Language, word: &[u8]) -> bool
     }
 }
 
-// The mode flag that a word is which not each language has.
+// The mode flag that a word is in language 4 alone.
 fn wider_mode_flag(language: Language, word: &[u8]) -> Option<ModeFlag>
     ensures { result ≡ wider_mode_flag language word.now }
 {
@@ -112,7 +112,7 @@ fn wider_mode_flag(language: Language, word: &[u8]) -> Option<ModeFlag>
     }
 }
 
-// The mode flag that a word is, if it is one.
+// The mode flag that a word is, or `None`.
 fn mode_flag(language: Language, word: &[u8]) -> Option<ModeFlag>
     ensures { result ≡ mode_flag language word.now }
 {
@@ -138,7 +138,7 @@ fn is_same_mode(one: ModeFlag, other: ModeFlag) -> bool
     }
 }
 
-// Flags and a mode flag: two different ones may not stand.
+// Flags and a mode flag: two different ones are refused.
 fn with_mode(flags: Flags, mode: ModeFlag) -> Result<Flags, GrammarRefusal>
     ensures { result ≡ with_mode flags mode }
 {
@@ -173,7 +173,7 @@ fn refusal_of_word(language: Language, word: &[u8]) -> GrammarRefusal
     }
 }
 
-// Flags and one more, if it is one.
+// Flags and the flag of a word, or the word's refusal.
 fn with_flag(language: Language, flags: Flags, word: &[u8]) -> Result<Flags, GrammarRefusal>
     ensures { result ≡ with_flag language flags word.now }
 {
@@ -191,7 +191,7 @@ fn with_flag(language: Language, flags: Flags, word: &[u8]) -> Result<Flags, Gra
     }
 }
 
-// What separates flags.
+// Whether a byte separates flags.
 fn separates(byte: u8) -> bool
     ensures { result ≡ separates byte }
 {
@@ -201,7 +201,7 @@ fn separates(byte: u8) -> bool
     }
 }
 
-// Flags and one more, if there is one: between two separators may stand none.
+// Flags and the flag of a word, if there is one: between two separators may be none.
 fn with_item(language: Language, flags: Flags, word: &[u8]) -> Result<Flags, GrammarRefusal>
     ensures { result ≡ with_item language flags word.now }
 {
@@ -220,7 +220,7 @@ fn word_size(text: &[u8]) -> usize
     length_while(text, |byte| !separates(byte))
 }
 
-// The first word of a list, and what stands behind its separator, if there is one.
+// The first word of a list, and what follows its separator, if there is one.
 pub fn first_word(text: &[u8]) -> (&[u8], Option<&[u8]>)
     ensures words { slice_split separates text.now ≡ result.0.now ∷ words_of_rest (option_map (λ rest. rest.now) result.1) }
     ensures shorter { IfSome result.1 (λ rest. length rest.now < length text.now) }
@@ -233,7 +233,7 @@ pub fn first_word(text: &[u8]) -> (&[u8], Option<&[u8]>)
     }
 }
 
-// Flags and those of a list, which separators separate, or the refusal of the first that can't stand there.
+// Flags and those of a list, or the refusal of the first word that is none.
 fn with_flags(language: Language, flags: Flags, text: &[u8]) -> Result<Flags, GrammarRefusal>
     ensures { result ≡ with_flags language flags (slice_split separates text.now) }
 {
@@ -252,7 +252,7 @@ fn with_flags(language: Language, flags: Flags, text: &[u8]) -> Result<Flags, Gr
     }
 }
 
-// The list goes on, up to the first `)`, behind which nothing stands.
+// Continues the list, up to the first `)`, which must end the text.
 fn listed(language: Language, flags: Flags, text: &[u8]) -> Result<FlagsSoFar, GrammarRefusal>
     ensures { result ≡ listed language flags text.now }
 {
@@ -268,7 +268,7 @@ fn listed(language: Language, flags: Flags, text: &[u8]) -> Result<FlagsSoFar, G
     }
 }
 
-// The list begins.
+// Begins the list.
 fn opened(language: Language, text: &[u8]) -> Result<FlagsSoFar, GrammarRefusal>
     ensures { result ≡ opened language text.now }
 {
@@ -278,7 +278,7 @@ fn opened(language: Language, text: &[u8]) -> Result<FlagsSoFar, GrammarRefusal>
     }
 }
 
-// The sign was read.
+// Continues after the sign.
 fn behind_sign(language: Language, text: &[u8]) -> Result<FlagsSoFar, GrammarRefusal>
     ensures { result ≡ behind_sign language text.now }
 {
@@ -288,7 +288,7 @@ fn behind_sign(language: Language, text: &[u8]) -> Result<FlagsSoFar, GrammarRef
     opened(language, text)
 }
 
-// The word `flags` was read.
+// Continues after the word `flags`.
 fn behind_keyword(language: Language, text: &[u8]) -> Result<FlagsSoFar, GrammarRefusal>
     ensures { result ≡ behind_keyword language text.now }
 {
@@ -299,7 +299,7 @@ fn behind_keyword(language: Language, text: &[u8]) -> Result<FlagsSoFar, Grammar
     }
 }
 
-// One more word, behind what was read.
+// Continues with one more word after what was read.
 fn with_word(
     language: Language,
     before: FlagsSoFar,
@@ -322,7 +322,7 @@ fn with_word(
     }
 }
 
-// One more token that isn't the brace, behind what was read.
+// Continues with one more token, which isn't the brace, after what was read.
 fn with_token(
     language: Language,
     before: FlagsSoFar,
@@ -340,7 +340,7 @@ fn with_token(
     }
 }
 
-// The flags where the brace stands.
+// The flags where the brace comes.
 fn finished(read: FlagsSoFar) -> Option<Flags>
     ensures { result ≡ finished read }
 {
@@ -351,15 +351,15 @@ fn finished(read: FlagsSoFar) -> Option<Flags>
     }
 }
 
-/// FLAGS of a head, the brace that ends them, and what stands behind it.
+/// Reads FLAGS after a head: returns the flags that decide something, the brace that ends them, and what follows it. It takes no memory.
 ///
 /// # Errors
 ///
 /// Each at the first token with which nothing that could follow would be accepted (the law `where_flags_are_refused`; docs/policy.md, "Flags").
-/// - `BadFlag`: a word of the list is no flag, or a mode flag stands behind a different one.
-/// - `LeftOut`: in language 4, a word of the list is `kill` or `prompt`. Of two such words of one token the first is told, as this or as that.
+/// - `BadFlag`: a word of the list is no flag, or a mode flag follows a different one.
+/// - `LeftOut`: in language 4, a word of the list is `kill` or `prompt`. Of several such words in one token the first decides between these two.
 /// - `BadToken`: any other fault.
-/// - `RanOut`: the tokens end before the brace, and could go on.
+/// - `RanOut`: the tokens end before the brace, and could continue.
 pub fn read_flags<'a>(
     language: Language,
     tokens: &'a [Spliced<'a>],

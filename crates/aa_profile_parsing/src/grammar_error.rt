@@ -1,4 +1,4 @@
-//! The first fault of a file's grammar, as it is told.
+//! The first fault of a file's grammar, as callers see it.
 
 ghost use Rattle.std.specs.Prelude.{◌≡◌};
 
@@ -12,7 +12,7 @@ use std::fmt::{self, Display, Formatter, Write};
 pub struct GrammarError {
     /// What is wrong.
     pub refusal: GrammarRefusal,
-    /// Where the token begins at which it is told; nothing where the tokens ran out outside of a block, where the file has no profile, and where
+    /// The place of the token at which it is reported; `None` where the tokens ran out outside of a block, where the file has no profile, and where
     /// memory ran out.
     pub place: Option<Place>,
 }
@@ -31,7 +31,7 @@ impl Display for GrammarError {
 
 impl Error for GrammarError {}
 
-// What is told of a fault.
+// The error for a fault.
 impl From<Fault> for GrammarError {
     ghost use Rattle.aa_profile_parsing.specs.GrammarError.{told};
 

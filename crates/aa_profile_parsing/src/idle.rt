@@ -1,4 +1,4 @@
-//! The flags of FLAGS that decide nothing, as texts.
+//! The flags in FLAGS that decide nothing, as texts.
 
 ghost use Rattle.std.specs.Prelude.{◌≡◌, ◌++◌, ◌≤◌, ◌∷◌, [], IfOk, OnOk, length};
 ghost use Rattle.std.specs.List.{filter};
@@ -13,7 +13,7 @@ use aa_bytes::{Sequence, behind, length_while};
 use aa_text_tokens::{Spliced, TokenKind};
 use std::alloc::{AllocError, Global};
 
-// How many tokens stand before the first opening brace.
+// How many tokens come before the first opening brace.
 fn flag_count(tokens: &[Spliced<'_>]) -> usize
     ensures count { result ≡ flag_count (seen_tokens tokens.now) }
     ensures within { result ≤ length tokens.now }
@@ -30,8 +30,7 @@ fn flag_count(tokens: &[Spliced<'_>]) -> usize
     count
 }
 
-/// The tokens of FLAGS: of those behind what stands before them these are all before the first opening brace, with which a block begins. It takes no
-/// memory.
+/// The tokens of FLAGS, by the tokens from their beginning on: all before the first opening brace, with which a block begins. It takes no memory.
 pub fn flag_tokens<'a>(tokens: &'a [Spliced<'a>]) -> &'a [Spliced<'a>]
     ensures { seen_tokens result.now ≡ flag_tokens (seen_tokens tokens.now) }
 {
@@ -39,7 +38,7 @@ pub fn flag_tokens<'a>(tokens: &'a [Spliced<'a>]) -> &'a [Spliced<'a>]
     &tokens[..count]
 }
 
-// The text of tokens, with a blank behind each.
+// The text of tokens, each followed by a blank.
 fn spaced(alloc: Global, tokens: &[Spliced<'_>]) -> Result<Vec<u8>, AllocError>
     ensures { IfOk result (λ text. text.items ≡ spaced (seen_tokens tokens.now)) }
 {
@@ -53,7 +52,7 @@ fn spaced(alloc: Global, tokens: &[Spliced<'_>]) -> Result<Vec<u8>, AllocError>
     Ok(text)
 }
 
-// A text up to its first `)`.
+// What a text has before its first `)`.
 fn up_to_parenthesis(text: &[u8]) -> &[u8]
     ensures { result.now ≡ up_to_parenthesis text.now }
 {
@@ -61,7 +60,7 @@ fn up_to_parenthesis(text: &[u8]) -> &[u8]
     &text[..size]
 }
 
-// The list of FLAGS, from their text.
+// The list in the text of FLAGS.
 fn list_text(text: &[u8]) -> &[u8]
     ensures { result.now ≡ list_text text.now }
 {
@@ -84,7 +83,7 @@ fn push_if_idle(
     Ok(())
 }
 
-// Those of a list's words that are flags that decide nothing.
+// The words of a list that are flags that decide nothing.
 fn idle_words(
     alloc: Global,
     language: Language,
@@ -104,8 +103,8 @@ fn idle_words(
     }
 }
 
-/// The flags of FLAGS that decide nothing, from the tokens of these: each as it is written, in their order, and as often as it stands there. Of tokens
-/// that `read_flags` refuses they are those of the words between the first `(` and the first `)` behind it.
+/// The flags in FLAGS that decide nothing, from their tokens: each as it is written, in their order, and as often as it is written. Of tokens that
+/// `read_flags` refuses they are those between the first `(` and the first `)` after it.
 ///
 /// # Errors
 ///

@@ -3,17 +3,17 @@
 ghost use Rattle.std.specs.Prelude.{◌≡◌};
 ghost use Rattle.aa_profile_parsing.specs.Languages.{language_named, word_of};
 
-/// Which language policy is read by.
+/// The language by which policy is read.
 #[derive(Clone, Copy, Debug, PartialEq, Eq)]
 pub enum Language {
     /// The language of AppArmor 3.
     Three,
-    /// That of AppArmor 4, which is wider.
+    /// The language of AppArmor 4, which has all of language 3 and more.
     Four,
 }
 
 impl Language {
-    /// The language of a word, which is its number in ASCII digits; none where no language has it. It takes no memory.
+    /// The language of a word, which is its number in ASCII digits; `None` where no language has it. It takes no memory.
     pub fn named(word: &[u8]) -> Option<Language>
         ensures { result ≡ language_named word.now }
     {

@@ -1,4 +1,4 @@
-//! What holds of flags, as laws over the definitions that `read_flags` is proved to follow.
+//! Properties of flags, as laws over the definitions that `read_flags` is proved to follow.
 
 ghost use Rattle.std.specs.Prelude.{◌≡◌, ◌++◌, ℕ, false, true, IfOk, List, ◌∷◌, Some};
 ghost use Rattle.std.specs.List.{list_all};
@@ -16,9 +16,9 @@ ghost use Rattle.aa_profile_parsing.specs.KeptFlags.{stands};
 ghost use Rattle.aa_profile_parsing.specs.NarrowFlags.{HasNarrowMode};
 ghost use Rattle.aa_profile_parsing.specs.declared.flags.Flags.{Flags};
 
-/// FLAGS are read as the text of their Words and Commas says: nothing, or a list in parentheses, before which `flags =` may stand, with or
-/// without blanks, and changes nothing. Any blanks and commas stand between two words of a list. Lists with the same words say the same, in
-/// whatever order and however often these stand.
+/// FLAGS are read as the text of their Words and Commas says: nothing, or a list in parentheses, before which `flags =` may come, with or without
+/// blanks, and changes nothing. Any blanks and commas may be between two words of a list. Lists with the same words say the same, in whatever order
+/// and however often they have them.
 pub fn what_flags_say()
     ensures flags_are_read_as_their_text { (language : Language) (tokens : List Placed) (brace : Placed) (rest : List Placed)
         → list_all is_flag_token tokens ≡ true
@@ -38,13 +38,13 @@ pub fn what_flags_say()
         → flags_of language words ≡ flags_of language others }
 {}
 
-/// FLAGS are refused at the first token with which nothing that could follow would be accepted: the tokens before it can go on to FLAGS that are
-/// read, and with it the same is told whatever stands behind it. Tokens run out only where they can go on so.
+/// FLAGS are refused at the first token with which nothing that could follow would be accepted: the tokens before it can be continued to FLAGS that
+/// are read, and with it the refusal is the same whatever follows. Tokens run out only where they can be continued so.
 pub fn where_flags_are_refused()
     ensures { FaultsAreTheFirst }
 {}
 
-/// No flag is lost: where FLAGS say something, those words stand in their list that they say, of mode flags and `audit`, and those that are kept.
+/// No flag is lost: where FLAGS say something, their list has exactly the words that they say, of mode flags and `audit`, and those that are kept.
 /// So FLAGS that say the same, and of which the same words are kept, have the same words.
 pub fn which_flags_are_kept()
     ensures { (language : Language) (text : List ℕ) (flags : Flags) (word : List ℕ)

@@ -1,5 +1,5 @@
-//! What all parts of a file's grammar share: the language that it is read by, tokens by what they can be, and the tokens that a part begins with; FLAGS of
-//! profiles, children and hats; and why a profile's file is refused, with the number, the name and the place.
+//! What all parts of a file's grammar share: the language by which it is read, tokens by what they can be, and the tokens with which a part begins;
+//! FLAGS of profiles, children and hats; and why a profile's file is refused, with the number, the name and the place.
 #![tactic(auto)]
 
 mod fault;

@@ -1,4 +1,4 @@
-//! Why a profile's file was refused, and where.
+//! Why a profile's file is refused, and where.
 
 ghost use Rattle.std.specs.Prelude.{◌≡◌};
 ghost use Rattle.aa_profile_parsing.specs.ProfileError.{name_of, number_of, placed, plain};
@@ -15,7 +15,7 @@ use std::fmt::{self, Display, Formatter, Write};
 /// What is wrong with a profile's file. `docs/commands.md` has the table of numbers and names.
 #[derive(Clone, Copy, Debug, PartialEq, Eq)]
 pub enum ProfileRefusal {
-    /// A pattern of the file is none, and why.
+    /// A pattern of the file is refused, and why.
     Pattern(PatternError),
     /// The file's text or one of its variables is refused.
     Text(TextRefusal),
@@ -23,20 +23,20 @@ pub enum ProfileRefusal {
     Grammar(GrammarRefusal),
     /// A file has more than 16,384 rules, each expansion of a pattern counted.
     TooManyRules,
-    /// The exec rules of a profile, child or hat have more than 8,192 states, which are the different beginnings of their patterns.
+    /// The exec rules of a profile, child or hat have more than 8,192 states, which are the different beginnings of their patterns (language 4).
     ManyStates,
-    /// Two rules lead a program of one path to different places.
+    /// Two rules lead a program of one path to different profiles.
     ExecConflict,
-    /// Memory ran out, in whatever layer: none of the refusals above is a want of memory where it was made by `from`.
+    /// Memory ran out, at whatever layer: none of the refusals above is that of memory where it was made by `from`.
     Memory,
 }
 
-/// Why a profile's file was refused, and where.
+/// Why a profile's file is refused, and where.
 #[derive(Clone, Copy, Debug, PartialEq, Eq)]
 pub struct ProfileError {
     /// What is wrong.
     pub refusal: ProfileRefusal,
-    /// Where it is, if it has a place in a file.
+    /// The place of the fault, if it has one in a file.
     pub place: Option<Place>,
 }
 
@@ -50,7 +50,7 @@ pub fn plain(refusal: ProfileRefusal) -> ProfileError
     }
 }
 
-/// A refusal at a place. Want of memory has none.
+/// A refusal at a place. `Memory` has none.
 pub fn placed(refusal: ProfileRefusal, place: Place) -> ProfileError
     ensures { result ≡ placed refusal place }
 {

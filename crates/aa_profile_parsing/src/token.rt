@@ -38,7 +38,7 @@ fn is_text(token: Spliced<'_>) -> bool
     }
 }
 
-/// Whether a token is a pattern: a text in quotes, or a word that begins with `/` or `@`.
+/// Whether a token is a pattern: a quoted text, or a word that begins with `/` or `@`.
 pub fn is_pattern(token: Spliced<'_>) -> bool
     ensures { result ≡ is_pattern (seen_spliced token.entry) }
 {
@@ -60,7 +60,7 @@ pub fn unexpected(tokens: &[Spliced<'_>]) -> Fault
     }
 }
 
-/// What stands behind the Comma that tokens begin with.
+/// What follows the Comma with which tokens begin.
 ///
 /// # Errors
 ///
@@ -79,7 +79,7 @@ pub fn read_comma<'a>(tokens: &'a [Spliced<'a>]) -> Result<&'a [Spliced<'a>], Fa
     Ok(behind)
 }
 
-/// The word or the text in quotes that tokens begin with, and what stands behind it.
+/// The word or quoted text with which tokens begin, and what follows it.
 ///
 /// # Errors
 ///
@@ -98,7 +98,7 @@ pub fn read_text<'a>(tokens: &'a [Spliced<'a>]) -> Result<(Spliced<'a>, &'a [Spl
     Ok((*token, behind))
 }
 
-/// The pattern that tokens begin with, and what stands behind it.
+/// The pattern with which tokens begin, and what follows it.
 ///
 /// # Errors
 ///

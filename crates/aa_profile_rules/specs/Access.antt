@@ -12,12 +12,12 @@ use Rattle.aa_profile_parsing.specs.declared.fault.GrammarRefusal.{GrammarRefusa
 use Rattle.aa_profile_parsing.specs.declared.fault.GrammarRefusal.TheVariants.{BadAccess, BadToken, ExecQualifier, TwoExec, WriteAppend}
 use Rattle.aa_profile_rules.specs.declared.access.Access.{Access}
 
--- `x` stands in an access as its rule can't have it: a rule that denies has it bare, without saying under what a program would run, and any other
--- has it within an exec word
+-- `x` is in an access where its rule can't have it: a rule that denies has it bare, without saying under which profile a program would run, and any
+-- other has it within an exec word
 abbrev pub is_misplaced : Bool → WrittenAccess → Bool
 is_misplaced deny written = if deny then is_some written.word else has written.letters.0 EXEC
 
--- why an access can't stand in a rule, by whether that denies; `w` and `a` don't stand together, since `w` is more
+-- why an access is refused in a rule, by whether the rule denies; `w` and `a` don't go together, since `w` is more
 abbrev pub refusal_of_access : Bool → WrittenAccess → Option GrammarRefusal
 refusal_of_access deny written =
     if has_two_words written then Some TwoExec else
@@ -25,7 +25,7 @@ refusal_of_access deny written =
     if has written.letters.0 WRITE && has written.letters.0 APPEND then Some WriteAppend else
     None
 
--- what a word lets or denies in a rule, by whether that denies: known letters and exec words, that can stand there together
+-- what a word allows or denies in a rule, by whether the rule denies: known letters and exec words that go together
 abbrev pub access_of : Bool → List ℕ → Result Access GrammarRefusal
 access_of deny text = elim (access_with nothing_written text) [
   | None ↦ Err BadAccess
@@ -35,7 +35,7 @@ access_of deny text = elim (access_with nothing_written text) [
   ]
 ]
 
--- the access that tokens begin with, in a rule that denies or in one that doesn't
+-- the access with which tokens begin, in a rule that denies or in one that doesn't
 abbrev pub access : Bool → List Placed → Part Access
 access deny [] = Err RanOut
 access deny (token ∷ tokens) =
@@ -47,7 +47,7 @@ access deny (token ∷ tokens) =
 abbrev pub plain_letters : ℕ
 plain_letters = union READ (union WRITE (union LINK (union LOCK MAP)))
 
--- what `file` alone lets or denies: `rwmlkix`, or `rwmlkx` in a rule that denies
+-- what `file` alone allows or denies: `rwmlkix`, or `rwmlkx` in a rule that denies
 abbrev pub whole_access : Bool → Access
 whole_access deny =
     if deny then record { letters = record { 0 = union plain_letters EXEC }; word = None } else record { letters = record { 0 = plain_letters }; word = Some Inherit }

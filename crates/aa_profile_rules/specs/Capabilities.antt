@@ -1,4 +1,4 @@
--- Rules on capabilities (apparmor.d(5), "Capability Rules"; docs/policy.md, "Rules"). The bit of each number tells whether a set has it.
+-- Rules on capabilities (apparmor.d(5), "Capability Rules"; docs/policy.md, "Rules"). Bit n of a set is that of the capability of number n.
 use Rattle.std.specs.Prelude.{ℕ, ◌^◌, ◌-◌, if◌then◌else◌, List, [], ◌∷◌, None, Some, Ok}
 use Rattle.std.specs.Int.RustNames.{bit_or}
 use Rattle.aa_profile_data.specs.Capabilities.{capability_number}
@@ -7,15 +7,15 @@ use Rattle.aa_profile_parsing.specs.Parts.{Part, refused}
 use Rattle.aa_profile_parsing.specs.Tokens.{is_word, text_of}
 use Rattle.aa_profile_parsing.specs.declared.fault.GrammarRefusal.TheVariants.{BadCapability}
 
--- all capabilities: as many lowest bits as there are
+-- all capabilities: the lowest 41 bits
 abbrev pub all_capabilities : ℕ
 all_capabilities = 2 ^ 41 - 1
 
--- a set, and the capability of a number
+-- a set with the capability of a number
 abbrev pub with_capability : ℕ → ℕ → ℕ
 with_capability set number = bit_or set (2 ^ number)
 
--- the set of the capabilities that words name, and of those before; a name may stand twice
+-- the set of the capabilities that words name, with those before; a name may be repeated
 abbrev pub named_capabilities : ℕ → List Placed → Part ℕ
 named_capabilities set [] = Ok (set, [])
 named_capabilities set (token ∷ tokens) =

@@ -26,7 +26,7 @@ other_words = codes "change_profile" ∷ codes "set" ∷ codes "io_uring" ∷ co
 abbrev pub is_among : List (List ℕ) → List ℕ → Bool
 is_among words text = list_any (bytes_eq text) words
 
--- the words that kept rules begin with
+-- the words with which kept rules begin
 abbrev pub is_kept_word : List ℕ → Bool
 is_kept_word text = is_among mount_words text || is_among process_words text || is_among other_words text
 
@@ -38,13 +38,13 @@ abbrev pub count_of : ℕ → List ℕ → ℕ
 count_of byte [] = zero
 count_of byte (b ∷ bs) = if b == byte then 1 + count_of byte bs else count_of byte bs
 
--- so many tokens, and then as many as are told
+-- so many tokens, followed by as many as the result says
 abbrev pub and_then : ℕ → Result ℕ Fault → Result ℕ Fault
 and_then count (Err fault) = Err fault
 and_then count (Ok size) = Ok (count + size)
 
--- How many tokens a kept rule still has before the Comma that ends it, where so many `(` and `)` came in its Words: it ends at the first Comma
--- before which they are as many.
+-- How many tokens a kept rule still has before the Comma that ends it, where its Words had so many `(` and `)`: it ends at the first Comma before
+-- which they are equally many.
 abbrev pub size_behind : ℕ → ℕ → List Placed → Result ℕ Fault
 size_behind opened closed [] = Err RanOut
 size_behind opened closed (token ∷ tokens) = elim token.token.kind [

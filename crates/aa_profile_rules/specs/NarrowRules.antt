@@ -9,7 +9,7 @@ use Rattle.aa_profile_rules.specs.Rules.{All, Kept, OnCapabilities, OnFile, OnNe
 abbrev pub NamesNoStack : Option Placed → Type 0
 NamesNoStack target = IfSome target (λ token. stack_of (text_of token) ≡ None)
 
--- a rule isn't one that lets all, and where it has an exec word, its target names no stack
+-- a rule isn't the rule `all`, and where it has an exec word, its target names no stack
 abbrev pub IsNarrow : Rule → Type 0
 IsNarrow (OnFile qualifiers pattern access target) = IfSome access.word (λ word. NamesNoStack target)
 IsNarrow (OnCapabilities qualifiers word capabilities) = Unit

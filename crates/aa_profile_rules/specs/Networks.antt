@@ -19,22 +19,22 @@ first_named text = elim (domain_number text) [
   | None ↦ elim (kind_number text) [ Some kind ↦ Some (record { domain = None; kind = Some kind }) | None ↦ None ]
 ]
 
--- a kind stands behind a domain: a type behind each, a protocol behind those that have protocols
+-- a kind may follow a domain: a type each, a protocol those that have protocols
 abbrev pub stands_behind : ℕ → ℕ → Bool
 stands_behind domain kind = not (is_protocol kind) || has_protocols domain
 
--- those that a domain and a second word name
+-- the sockets that a domain and a second word name
 abbrev pub named_in : ℕ → List ℕ → Option Sockets
 named_in domain text = elim (kind_number text) [
   | None ↦ None
   | Some kind ↦ if stands_behind domain kind then Some (record { domain = Some domain; kind = Some kind }) else None
 ]
 
--- those that a first and a second word name: none stands behind a type or a protocol
+-- the sockets that a first and a second word name: none may follow a type or a protocol
 abbrev pub second_named : Sockets → List ℕ → Option Sockets
 second_named first text = elim first.domain [ None ↦ None | Some domain ↦ named_in domain text ]
 
--- those of a rule behind its first word, which may be followed by one more
+-- the sockets of a rule after its first word, which one more may follow
 abbrev pub sockets_behind : Sockets → List Placed → Part Sockets
 sockets_behind first [] = Ok (first, [])
 sockets_behind first (token ∷ tokens) =

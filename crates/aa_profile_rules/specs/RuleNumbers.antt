@@ -4,11 +4,11 @@ use Rattle.aa_profile_data.specs.KnownNumbers.{are_capabilities, is_domain, is_k
 use Rattle.aa_profile_rules.specs.Rules.{All, Kept, OnCapabilities, OnFile, OnNetwork, Rule}
 use Rattle.aa_profile_rules.specs.declared.networks.Sockets.{Sockets}
 
--- the numbers of sockets stand in the tables
+-- the numbers of sockets are in the tables
 abbrev pub are_sockets : Sockets → Bool
 are_sockets sockets = is_domain sockets.domain && is_kind sockets.kind
 
--- a rule has no number that doesn't stand in the tables
+-- every number of a rule is in the tables
 abbrev pub has_known_numbers : Rule → Bool
 has_known_numbers (OnFile qualifiers pattern access target) = true
 has_known_numbers (OnCapabilities qualifiers word capabilities) = are_capabilities capabilities

@@ -19,7 +19,7 @@ use Rattle.aa_profile_rules.specs.declared.networks.Sockets.{Sockets}
 use Rattle.aa_profile_rules.specs.declared.qualifiers.Qualifiers.{Qualifiers}
 
 -- A rule: on the files of a pattern, with its access and the target that it names, if it does; on a set of capabilities, or on sockets, with the
--- token of its word; one that is kept, with its tokens up to the Comma that ends it; or one that lets all, with the token of its word.
+-- token of its word; one that is kept, with its tokens up to the Comma that ends it; or the rule `all`, with the token of its word.
 pub data Rule : Type 0 where
   OnFile : (qualifiers : Qualifiers) (pattern : Placed) (access : Access) (target : Option Placed) → Rule
   OnCapabilities : (qualifiers : Qualifiers) (word : Placed) (capabilities : ℕ) → Rule
@@ -31,16 +31,16 @@ pub data Rule : Type 0 where
 abbrev pub ended : Rule → List Placed → Part Rule
 ended rule tokens = elim (behind_comma tokens) [ Err fault ↦ Err fault | Ok behind ↦ Ok (rule, behind) ]
 
--- a file rule behind its pattern and its access: a target may follow
+-- a file rule after its pattern and its access: a target may follow
 abbrev pub targeted_rule : Language → Qualifiers → Placed → Access → List Placed → Part Rule
 targeted_rule language qualifiers pattern access tokens =
     followed (target language access tokens) (λ target behind. ended (OnFile qualifiers pattern access target) behind)
 
--- a file rule behind its pattern
+-- a file rule after its pattern
 abbrev pub pattern_first : Language → Qualifiers → Placed → List Placed → Part Rule
 pattern_first language qualifiers pattern tokens = followed (access qualifiers.deny tokens) (λ access behind. targeted_rule language qualifiers pattern access behind)
 
--- a file rule whose access stands before its pattern
+-- a file rule whose access comes before its pattern
 abbrev pub access_first : Language → Qualifiers → List Placed → Part Rule
 access_first language qualifiers tokens =
     followed (access qualifiers.deny tokens) (λ access behind.
@@ -52,7 +52,7 @@ file_rule language qualifiers [] = Err RanOut
 file_rule language qualifiers (token ∷ tokens) =
     if is_pattern token then pattern_first language qualifiers token tokens else access_first language qualifiers (token ∷ tokens)
 
--- the pattern of all files, in the place of a token
+-- the pattern of all files, in place of a token
 abbrev pub all_files : Placed → Placed
 all_files word = record {
   file = word.file;
@@ -63,7 +63,7 @@ all_files word = record {
 abbrev pub whole_rule : Qualifiers → Placed → Rule
 whole_rule qualifiers word = OnFile qualifiers (all_files word) (whole_access qualifiers.deny) None
 
--- A rule behind the word `file`: that of the word alone, where a Comma follows, and else a file rule.
+-- A rule after the word `file`: that of the word alone, where a Comma follows, and else a file rule.
 abbrev pub rule_behind_file : Language → Qualifiers → Placed → List Placed → Part Rule
 rule_behind_file language qualifiers word [] = Err RanOut
 rule_behind_file language qualifiers word (token ∷ tokens) =
@@ -72,32 +72,32 @@ rule_behind_file language qualifiers word (token ∷ tokens) =
 abbrev pub kept_rule : Qualifiers → List Placed → Part Rule
 kept_rule qualifiers tokens = followed (kept tokens) (λ kept behind. Ok (Kept qualifiers kept, behind))
 
--- a rule on capabilities, behind its word
+-- a rule on capabilities, after its word
 abbrev pub capability_rule : Qualifiers → Placed → List Placed → Part Rule
 capability_rule qualifiers word tokens = followed (capabilities tokens) (λ set behind. ended (OnCapabilities qualifiers word set) behind)
 
--- a rule on sockets, behind its word
+-- a rule on sockets, after its word
 abbrev pub network_rule : Qualifiers → Placed → List Placed → Part Rule
 network_rule qualifiers word tokens = followed (sockets tokens) (λ found behind. ended (OnNetwork qualifiers word found) behind)
 
--- the words of rules on what has no owner
+-- the words of rules that can't have `owner`
 abbrev pub begins_unowned : Placed → Bool
 begins_unowned token = is_word_of (codes "capability") token || is_word_of (codes "network") token
 
--- A rule on what has no owner, behind its word. Where `owner` stands before that word, nothing that follows would be accepted.
+-- A rule that can't have `owner`, after its word. Where `owner` comes before that word, nothing that follows would be accepted.
 abbrev pub unowned_rule : Qualifiers → Placed → List Placed → Part Rule
 unowned_rule qualifiers word tokens =
     if qualifiers.owner then refused BadToken word else
     if is_word_of (codes "capability") word then capability_rule qualifiers word tokens else
     network_rule qualifiers word tokens
 
--- a rule that isn't kept: on what has no owner, where it begins with such a word, and else on files
+-- a rule that isn't kept: on capabilities or sockets, where it begins with their word, and else on files
 abbrev pub plain_rule : Language → Qualifiers → List Placed → Part Rule
 plain_rule language qualifiers [] = Err RanOut
 plain_rule language qualifiers (token ∷ tokens) =
     if begins_unowned token then unowned_rule qualifiers token tokens else file_rule language qualifiers (token ∷ tokens)
 
--- a rule that each language has, behind its qualifiers; the word `file` stands alone or before a file rule
+-- a rule that both languages have, after its qualifiers; the word `file` comes alone or before a file rule
 abbrev pub common_rule : Language → Qualifiers → List Placed → Part Rule
 common_rule language qualifiers [] = Err RanOut
 common_rule language qualifiers (token ∷ tokens) =
@@ -115,14 +115,14 @@ is_left_out token =
     is_open_brace token.token.kind ||
     (is_word token.token.kind && (begins_with (codes "priority") (text_of token) || is_among left_out_words (text_of token)))
 
--- A rule that lets all, behind its word. Where `owner` stands before that word, nothing that follows would be accepted; `deny` isn't read here.
+-- The rule `all`, after its word. Where `owner` comes before that word, nothing that follows would be accepted; `deny` isn't read here.
 abbrev pub all_rule : Qualifiers → Placed → List Placed → Part Rule
 all_rule qualifiers word tokens =
     if qualifiers.owner then refused BadToken word else
     if qualifiers.deny then refused LeftOut word else
     ended (All qualifiers word) tokens
 
--- a rule of language 4, behind its qualifiers
+-- a rule of language 4, after its qualifiers
 abbrev pub wider_rule : Qualifiers → List Placed → Part Rule
 wider_rule qualifiers [] = Err RanOut
 wider_rule qualifiers (token ∷ tokens) =
@@ -130,11 +130,11 @@ wider_rule qualifiers (token ∷ tokens) =
     if is_word_of (codes "all") token then all_rule qualifiers token tokens else
     common_rule Four qualifiers (token ∷ tokens)
 
--- a rule behind its qualifiers
+-- a rule after its qualifiers
 abbrev pub rule_behind : Language → Qualifiers → List Placed → Part Rule
 rule_behind Three qualifiers tokens = common_rule Three qualifiers tokens
 rule_behind Four qualifiers tokens = wider_rule qualifiers tokens
 
--- the rule that tokens begin with
+-- the rule with which tokens begin
 abbrev pub rule : Language → List Placed → Part Rule
 rule language tokens = followed (qualifiers unqualified tokens) (rule_behind language)

@@ -1,5 +1,5 @@
--- Targets of file rules: what a rule names behind `->`, under which a program runs that it lets be started, or to which a hard link leads
--- (apparmor.d(5), "Execute Rules" and "Link rules"; docs/policy.md, "Exec words").
+-- Targets of file rules: what a rule names after `->`, a profile under which a program runs that it allows to be started, or the target of a hard
+-- link (apparmor.d(5), "Execute Rules" and "Link rules"; docs/policy.md, "Exec words").
 use Rattle.std.specs.Prelude.{ℕ, Bool, true, false, not, ◌&&◌, if◌then◌else◌, List, [], ◌∷◌, Option, None, Some, Ok, codes}
 use Rattle.aa_profile_data.specs.Access.{EXEC, LINK, has}
 use Rattle.aa_profile_data.specs.ExecWords.{row}
@@ -16,7 +16,7 @@ use Rattle.aa_profile_parsing.specs.declared.language.Language.TheVariants.{Four
 use Rattle.aa_profile_data.specs.Stacks.{is_name_or_stack_of}
 use Rattle.aa_profile_rules.specs.declared.access.Access.{Access}
 
--- where an exec word leads may have a name: that of a profile, or of a child or a hat
+-- an exec word with this destination may have a target: that of a profile, or of a child or a hat
 abbrev pub is_nameable : Destination → Bool
 is_nameable to.Profile = true
 is_nameable to.Child = true
@@ -29,13 +29,13 @@ takes_target access = elim access.word [
   | None ↦ has access.letters.0 LINK && not (has access.letters.0 EXEC)
 ]
 
--- a text names what is there: a profile by its full name, a child or a hat by its own
+-- a text is a name that a target with this destination may be: a profile's full name, or the own name of a child or a hat
 abbrev pub is_name_of : Destination → List ℕ → Bool
 is_name_of to.Profile text = is_full_name text
 is_name_of to.Child text = is_top_name text
 is_name_of _ text = false
 
--- a text names what is there, by a language; language 4 has stacks
+-- a text may be a target with this destination, by a language; language 4 has stacks
 abbrev pub names_what_is : Language → Destination → List ℕ → Bool
 names_what_is Three destination text = is_name_of destination text
 names_what_is Four destination text = is_name_or_stack_of destination text
@@ -47,13 +47,13 @@ is_target language access text = elim access.word [
   | None ↦ true
 ]
 
--- the target of an access, behind `->`
+-- the target of an access, after `->`
 abbrev pub named_target : Language → Access → List Placed → Part (Option Placed)
 named_target language access tokens =
     followed (expected is_text tokens) (λ target behind.
     if is_target language access (text_of target) then Ok (Some target, behind) else refused BadName target)
 
--- the target that tokens begin with, if they begin with `->`
+-- the target with which tokens begin, if they begin with `->`
 abbrev pub target : Language → Access → List Placed → Part (Option Placed)
 target language access [] = Ok (None, [])
 target language access (token ∷ tokens) =

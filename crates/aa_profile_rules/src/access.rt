@@ -9,7 +9,7 @@ use aa_profile_parsing::{Fault, GrammarRefusal, refusal_at};
 use aa_text_tokens::{Spliced, TokenKind};
 use bitflags::Flags;
 
-/// What a file rule lets or denies.
+/// What a file rule allows or denies.
 #[derive(Clone, Copy)]
 pub struct Access {
     /// Its letters; the bare `x` of a deny rule is among them, and no other rule has it.
@@ -18,7 +18,7 @@ pub struct Access {
     pub word: Option<ExecWord>,
 }
 
-// Whether an access goes against whether its rule denies: with an exec word in a deny rule, or with a bare `x` in another.
+// Whether an access doesn't fit its rule: an exec word in a deny rule, or a bare `x` in another.
 fn is_misplaced(deny: bool, written: WrittenAccess) -> bool
     ensures { result ≡ is_misplaced deny written }
 {
@@ -29,7 +29,7 @@ fn is_misplaced(deny: bool, written: WrittenAccess) -> bool
     }
 }
 
-// Why an access can't stand in a rule, by whether that denies.
+// Why an access is refused in a rule, by whether the rule denies.
 fn refusal_of_access(deny: bool, written: WrittenAccess) -> Option<GrammarRefusal>
     ensures { result ≡ refusal_of_access deny written }
 {
@@ -44,7 +44,7 @@ fn refusal_of_access(deny: bool, written: WrittenAccess) -> Option<GrammarRefusa
     }
 }
 
-// What a word lets or denies in a rule, by whether that denies.
+// What a word allows or denies in a rule, by whether the rule denies.
 fn access_of(deny: bool, text: &[u8]) -> Result<Access, GrammarRefusal>
     ensures ok { IfOk result (λ access. access_of deny text.now ≡ Ok access) }
     ensures refused { IfErr result (λ refusal. access_of deny text.now ≡ Err refusal) }
@@ -61,7 +61,7 @@ fn access_of(deny: bool, text: &[u8]) -> Result<Access, GrammarRefusal>
     }
 }
 
-// The access that tokens begin with, in a rule that denies or in one that doesn't, and what stands behind it.
+// The access with which tokens begin, in a rule that denies or in one that doesn't, and what follows it.
 pub fn read_access<'a>(
     deny: bool,
     tokens: &'a [Spliced<'a>],
@@ -82,7 +82,7 @@ pub fn read_access<'a>(
     }
 }
 
-/// What `file` alone lets or denies. It takes no memory.
+/// The access of the word `file` alone. It takes no memory.
 pub fn whole_access(deny: bool) -> Access
     ensures { result ≡ whole_access deny }
 {

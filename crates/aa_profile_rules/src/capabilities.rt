@@ -8,10 +8,10 @@ use aa_profile_data::{capability_number, which_numbers_names_have};
 use aa_profile_parsing::{Fault, GrammarRefusal, refusal_at};
 use aa_text_tokens::{Spliced, TokenKind};
 
-/// All capabilities: as many lowest bits as there are.
+/// The set of all capabilities: the lowest 41 bits.
 pub const ALL_CAPABILITIES: u64 = (1 << 41) - 1;
 
-// A set, and the capability of a number.
+// A set with the capability of a number.
 fn with_capability(set: u64, number: u8) -> u64
     requires { number < 41 }
     ensures { result ≡ with_capability set number }
@@ -19,7 +19,7 @@ fn with_capability(set: u64, number: u8) -> u64
     set | 1 << number
 }
 
-// The set of the capabilities that words name, and what stands behind them.
+// The set of the capabilities that words name, and what follows them.
 fn read_names<'a>(tokens: &'a [Spliced<'a>]) -> Result<(u64, &'a [Spliced<'a>]), Fault>
     ensures ok { IfOk result (IsRead (λ set. set) (named_capabilities 0) tokens.now) }
     ensures refused { IfErr result (IsFault (named_capabilities 0) tokens.now) }
@@ -41,8 +41,8 @@ fn read_names<'a>(tokens: &'a [Spliced<'a>]) -> Result<(u64, &'a [Spliced<'a>]),
     Ok((set, rest))
 }
 
-/// The set of the capabilities that tokens begin with, all where they begin with none, and what stands behind it. The bit of each number
-/// of `aa_profile_data` tells whether that capability is in the set.
+/// The set of the capabilities with which tokens begin, all where they begin with none, and what follows them. Bit n is set for the capability of
+/// number n. It takes no memory.
 ///
 /// # Errors
 ///

@@ -10,7 +10,7 @@ ghost use Rattle.aa_profile_rules.specs.KeptRules.{is_among, is_kept_word, mount
 use aa_profile_parsing::{Fault, GrammarRefusal, refusal_at};
 use aa_text_tokens::{Spliced, TokenKind};
 
-/// Whether a token is a word that kept rules begin with.
+/// Whether a token is a word with which kept rules begin.
 pub fn begins_kept(token: Spliced<'_>) -> bool
     ensures { result ≡ begins_kept (seen_spliced token.entry) }
 {
@@ -67,7 +67,7 @@ fn count_of(byte: u8, text: &[u8]) -> usize
     count
 }
 
-// How many tokens stand before the Comma that ends a kept rule.
+// How many tokens come before the Comma that ends a kept rule.
 fn size_of(tokens: &[Spliced<'_>]) -> Result<usize, Fault>
     ensures ok { IfOk result (λ size. size_behind 0 0 (seen_tokens tokens.now) ≡ Ok size) }
     ensures within { IfOk result (λ size. size < length tokens.now) }
@@ -93,7 +93,7 @@ fn size_of(tokens: &[Spliced<'_>]) -> Result<usize, Fault>
     Err(Fault::RanOut)
 }
 
-// The tokens of a kept rule, up to the Comma that ends it, and what stands behind it.
+// The tokens of a kept rule, up to the Comma that ends it, and what follows that.
 pub fn read_kept<'a>(
     tokens: &'a [Spliced<'a>],
 ) -> Result<(&'a [Spliced<'a>], &'a [Spliced<'a>]), Fault>

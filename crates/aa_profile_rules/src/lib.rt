@@ -1,5 +1,5 @@
-//! Rules of a profile's file as they are written: qualifiers, patterns, access and targets, capabilities, sockets, the rules
-//! that are kept as they are, and the rule that lets all.
+//! The rules of a profile's file as they are written: qualifiers, patterns, access and targets, capabilities, sockets, the rules that are kept as
+//! they are, and the rule `all`. `read_rule` reads one rule from tokens; patterns aren't expanded here.
 #![tactic(auto)]
 
 mod access;

@@ -8,12 +8,12 @@ use aa_profile_data::{domain_number, has_protocols, is_protocol, kind_number};
 use aa_profile_parsing::{Fault, GrammarRefusal, refusal_at};
 use aa_text_tokens::{Spliced, TokenKind};
 
-/// The sockets that a rule is about, by the numbers of `aa_profile_data`.
+/// The sockets that a rule covers, by the numbers of `aa_profile_data`.
 #[derive(Clone, Copy)]
 pub struct Sockets {
-    /// Their domain; none where the rule is about all.
+    /// Their domain; `None` where the rule covers all.
     pub domain: Option<u8>,
-    /// Their type, or their protocol; none where the rule is about all.
+    /// Their type, or their protocol; `None` where the rule covers all.
     pub kind: Option<u8>,
 }
 
@@ -44,14 +44,14 @@ fn first_named(text: &[u8]) -> Option<Sockets>
     })
 }
 
-// Whether a kind stands behind a domain: a type behind each, a protocol behind those that have protocols.
+// Whether a kind may follow a domain: a type may follow each, a protocol those that have protocols.
 fn stands_behind(domain: u8, kind: u8) -> bool
     ensures { result ≡ stands_behind domain kind }
 {
     !is_protocol(kind) || has_protocols(domain)
 }
 
-// Those that a domain and a second word name.
+// The sockets that a domain and a second word name.
 fn named_in(domain: u8, text: &[u8]) -> Option<Sockets>
     ensures { result ≡ named_in domain text.now }
 {
@@ -65,14 +65,14 @@ fn named_in(domain: u8, text: &[u8]) -> Option<Sockets>
     })
 }
 
-// Those that a first and a second word name: none stands behind a type or a protocol.
+// The sockets that a first and a second word name: none may follow a type or a protocol.
 fn second_named(first: Sockets, text: &[u8]) -> Option<Sockets>
     ensures { result ≡ second_named first text.now }
 {
     named_in(first.domain?, text)
 }
 
-// The sockets of a rule behind its first word, which may be followed by one more, and what stands behind them.
+// The sockets of a rule after its first word, which one more may follow, and what follows them.
 fn read_second<'a>(
     first: Sockets,
     tokens: &'a [Spliced<'a>],
@@ -92,12 +92,12 @@ fn read_second<'a>(
     }
 }
 
-/// The sockets that up to two words name with which tokens begin, all where they begin with none, and what stands behind these words.
+/// The sockets that up to two words name with which tokens begin, all where they begin with none, and what follows these words. It takes no memory.
 ///
 /// # Errors
 ///
-/// `BadNetwork` at a first word that is no domain, no type and no protocol, and at a second one that can't stand behind it: behind a domain a
-/// type may stand, or a protocol where the domain has protocols, and behind a type or a protocol nothing.
+/// `BadNetwork` at a first word that is no domain, no type and no protocol, and at a second one that may not follow it: a domain may be followed by
+/// a type, or by a protocol where the domain has protocols; a type and a protocol by nothing.
 pub fn read_sockets<'a>(tokens: &'a [Spliced<'a>]) -> Result<(Sockets, &'a [Spliced<'a>]), Fault>
     ensures ok { IfOk result (IsRead (λ found. found) sockets tokens.now) }
     ensures refused { IfErr result (IsFault sockets tokens.now) }

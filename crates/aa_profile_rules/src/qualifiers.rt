@@ -1,4 +1,4 @@
-//! The words before a rule that say how it counts.
+//! The qualifiers of a rule: the words before it.
 
 ghost use Rattle.std.specs.Prelude.{◌≡◌, ◌≤◌, IfOk, IfErr, length};
 ghost use Rattle.aa_text_tokens.specs.SeenSplicedTokens.{seen_spliced};
@@ -8,7 +8,7 @@ ghost use Rattle.aa_profile_rules.specs.Qualifiers.{qualified_by, qualifiers, un
 use aa_profile_parsing::{Fault, GrammarRefusal, is_word_of, refusal_at};
 use aa_text_tokens::Spliced;
 
-/// The words before a rule that say how it counts (apparmor.d(5)).
+/// The qualifiers of a rule, which are words before it (apparmor.d(5)).
 #[derive(Clone, Copy)]
 pub struct Qualifiers {
     /// `audit`: what it decides is logged.
@@ -21,7 +21,7 @@ pub struct Qualifiers {
     pub owner: bool,
 }
 
-// No such words.
+// No qualifier.
 fn unqualified() -> Qualifiers
     ensures { result ≡ unqualified }
 {
@@ -33,7 +33,7 @@ fn unqualified() -> Qualifiers
     }
 }
 
-// Some such words and one more, where it is one.
+// Some qualifiers and one more, where the token is one.
 fn qualified_by(before: Qualifiers, token: Spliced<'_>) -> Option<Qualifiers>
     ensures { result ≡ qualified_by before (seen_spliced token.entry) }
 {
@@ -62,7 +62,7 @@ fn qualified_by(before: Qualifiers, token: Spliced<'_>) -> Option<Qualifiers>
     }
 }
 
-// The qualifiers that tokens begin with, and what stands behind them.
+// The qualifiers with which tokens begin, and what follows them.
 pub fn read_qualifiers<'a>(
     tokens: &'a [Spliced<'a>],
 ) -> Result<(Qualifiers, &'a [Spliced<'a>]), Fault>

@@ -28,9 +28,9 @@ pub enum Rule<'a> {
     OnFile {
         /// The words before it.
         qualifiers: Qualifiers,
-        /// The token of its pattern; of the word `file` alone this word, with the pattern of all files as its text.
+        /// The token of its pattern; for the word `file` alone this word, with the pattern of all files as its text.
         pattern: Spliced<'a>,
-        /// What it lets or denies.
+        /// What it allows or denies.
         access: Access,
         /// The token of the target that it names: of its exec word, or of hard links where it has none.
         target: Option<Spliced<'a>>,
@@ -41,7 +41,7 @@ pub enum Rule<'a> {
         qualifiers: Qualifiers,
         /// The token of its word.
         word: Spliced<'a>,
-        /// The set of its capabilities: the bit of each number of `aa_profile_data` tells whether that one is in it.
+        /// The set of its capabilities: bit n is set for the capability of number n.
         capabilities: u64,
     },
     /// A rule on sockets.
@@ -50,17 +50,17 @@ pub enum Rule<'a> {
         qualifiers: Qualifiers,
         /// The token of its word.
         word: Spliced<'a>,
-        /// The sockets that it is about.
+        /// The sockets that it covers.
         sockets: Sockets,
     },
-    /// A rule that decides nothing here.
+    /// A rule of a kind that isn't modelled, which decides nothing here.
     Kept {
         /// The words before it.
         qualifiers: Qualifiers,
         /// Its tokens, from its word up to the Comma that ends it.
         tokens: &'a [Spliced<'a>],
     },
-    /// A rule that lets all.
+    /// The rule `all`, which allows everything.
     All {
         /// The words before it.
         qualifiers: Qualifiers,
@@ -69,7 +69,7 @@ pub enum Rule<'a> {
     },
 }
 
-// A rule, where a Comma ends it, and what stands behind that.
+// A rule, where a Comma ends it, and what follows that.
 fn read_end<'a>(
     rule: Rule<'a>,
     tokens: &'a [Spliced<'a>],
@@ -82,7 +82,7 @@ fn read_end<'a>(
     Ok((rule, behind))
 }
 
-// A file rule behind its pattern and its access, and what stands behind the rule.
+// A file rule after its pattern and its access, and what follows the rule.
 fn read_targeted<'a>(
     language: Language,
     qualifiers: Qualifiers,
@@ -106,7 +106,7 @@ fn read_targeted<'a>(
     )
 }
 
-// A file rule behind its pattern, and what stands behind the rule.
+// A file rule after its pattern, and what follows the rule.
 fn read_pattern_first<'a>(
     language: Language,
     qualifiers: Qualifiers,
@@ -121,7 +121,7 @@ fn read_pattern_first<'a>(
     read_targeted(language, qualifiers, pattern, access, rest)
 }
 
-// A file rule whose access stands before its pattern, and what stands behind the rule.
+// A file rule whose access comes before its pattern, and what follows the rule.
 fn read_access_first<'a>(
     language: Language,
     qualifiers: Qualifiers,
@@ -136,7 +136,7 @@ fn read_access_first<'a>(
     read_targeted(language, qualifiers, pattern, access, rest)
 }
 
-// The file rule that tokens begin with, behind its qualifiers: a pattern and its access, in either order, and a target.
+// The file rule with which tokens begin, after its qualifiers: a pattern and its access, in either order, and a target.
 fn read_file_rule<'a>(
     language: Language,
     qualifiers: Qualifiers,
@@ -180,7 +180,7 @@ fn whole_rule<'a>(qualifiers: Qualifiers, word: Spliced<'a>) -> Rule<'a>
     }
 }
 
-// The rule behind the word `file`, and what stands behind the rule.
+// The rule after the word `file`, and what follows the rule.
 fn read_behind_file<'a>(
     language: Language,
     qualifiers: Qualifiers,
@@ -200,7 +200,7 @@ fn read_behind_file<'a>(
     }
 }
 
-// The rule that is kept as it is written with which tokens begin, behind its qualifiers, and what stands behind it.
+// The kept rule with which tokens begin, after its qualifiers, and what follows it.
 fn read_kept_rule<'a>(
     qualifiers: Qualifiers,
     tokens: &'a [Spliced<'a>],
@@ -213,7 +213,7 @@ fn read_kept_rule<'a>(
     Ok((Rule::Kept { qualifiers, tokens }, rest))
 }
 
-// The rule on capabilities of this word that tokens go on with behind it, and what stands behind the rule.
+// The rule on capabilities after this word, and what follows the rule.
 fn read_capability_rule<'a>(
     qualifiers: Qualifiers,
     word: Spliced<'a>,
@@ -234,7 +234,7 @@ fn read_capability_rule<'a>(
     )
 }
 
-// The rule on sockets of this word that tokens go on with behind it, and what stands behind the rule.
+// The rule on sockets after this word, and what follows the rule.
 fn read_network_rule<'a>(
     qualifiers: Qualifiers,
     word: Spliced<'a>,
@@ -255,14 +255,14 @@ fn read_network_rule<'a>(
     )
 }
 
-// Whether a token is the word of a rule on what has no owner.
+// Whether a token is the word of a rule that can't have `owner`.
 fn begins_unowned(token: Spliced<'_>) -> bool
     ensures { result ≡ begins_unowned (seen_spliced token.entry) }
 {
     is_word_of(b"capability", token) || is_word_of(b"network", token)
 }
 
-// The rule on what has no owner that a word begins, with which tokens go on behind it, and what stands behind the rule.
+// The rule that can't have `owner`, after its word, and what follows the rule.
 fn read_unowned_rule<'a>(
     qualifiers: Qualifiers,
     word: Spliced<'a>,
@@ -282,7 +282,7 @@ fn read_unowned_rule<'a>(
     }
 }
 
-// The rule that tokens begin with, behind its qualifiers, where it isn't kept: on what has no owner, where it begins with such a word, and else
+// The rule with which tokens begin, after its qualifiers, where it isn't kept: on capabilities or sockets, where it begins with their word, and else
 // on files.
 fn read_plain_rule<'a>(
     language: Language,
@@ -302,7 +302,7 @@ fn read_plain_rule<'a>(
     }
 }
 
-// The rule that tokens begin with, behind its qualifiers, where each language has it.
+// The rule with which tokens begin, after its qualifiers, where both languages have it.
 fn read_common<'a>(
     language: Language,
     qualifiers: Qualifiers,
@@ -335,7 +335,7 @@ fn is_left_out_word(text: &[u8]) -> bool
         || text == b"if".as_slice()
 }
 
-// Whether a token is what rules of AppArmor begin with that aren't read here.
+// Whether a token is one with which rules of AppArmor begin that aren't read here.
 fn is_left_out(token: Spliced<'_>) -> bool
     ensures { result ≡ is_left_out (seen_spliced token.entry) }
 {
@@ -347,7 +347,7 @@ fn is_left_out(token: Spliced<'_>) -> bool
     }
 }
 
-// The rule that lets all, behind its word, and what stands behind it.
+// The rule `all` after its word, and what follows it.
 fn read_all_rule<'a>(
     qualifiers: Qualifiers,
     word: Spliced<'a>,
@@ -364,7 +364,7 @@ fn read_all_rule<'a>(
     }
 }
 
-// The rule of language 4 that tokens begin with, behind its qualifiers.
+// The rule of language 4 with which tokens begin, after its qualifiers.
 fn read_wider<'a>(
     qualifiers: Qualifiers,
     tokens: &'a [Spliced<'a>],
@@ -385,7 +385,7 @@ fn read_wider<'a>(
     read_common(Language::Four, qualifiers, tokens)
 }
 
-// The rule that tokens begin with, behind its qualifiers.
+// The rule with which tokens begin, after its qualifiers.
 fn read_behind<'a>(
     language: Language,
     qualifiers: Qualifiers,
@@ -401,14 +401,14 @@ fn read_behind<'a>(
     }
 }
 
-/// The rule that tokens begin with, and the tokens behind the Comma that ends it.
+/// Reads the rule with which tokens begin: returns it, and the tokens after the Comma that ends it. It takes no memory.
 ///
 /// # Errors
 ///
 /// Each at the first token, from the left, that the grammar doesn't take at its place (docs/policy.md, "Rules").
-/// - `BadToken`: `allow` with `deny`, `owner` before `capability`, `network` or `all` (told at this word), a token that no rule has there, or a
-///   missing Comma.
-/// - `LeftOut`, in language 4: `deny` before `all` (told at this word), and where a rule begins, behind its qualifiers, a word that begins with
+/// - `BadToken`: `allow` with `deny`, `owner` before `capability`, `network` or `all` (at this word), a token that no rule has there, or a missing
+///   Comma.
+/// - `LeftOut`, in language 4: `deny` before `all` (at this word), and where a rule begins, after its qualifiers, a word that begins with
 ///   `priority`, the words `safe`, `unsafe`, `prompt`, `other` and `if`, and an opening brace.
 /// - `BadAccess`: an access with what is neither a letter of `r w a l k m` nor an exec word. Else `TwoExec`: one with two different exec words,
 ///   where a bare `x` counts as one; else `ExecQualifier`: one with a bare `x` in a rule without `deny`, or with another exec word in one with it;
@@ -416,11 +416,11 @@ fn read_behind<'a>(
 /// - `TargetWithoutExec`, at `->`: a target in a rule whose exec word leads neither to a profile nor to a child or a hat, or that has neither an
 ///   exec word nor the letter `l` without `x`.
 /// - `BadName`, at the target: one of an exec word that leads to a profile and that is no full name, or of one that leads to a child or a hat and
-///   that is no name, or is `unconfined`. Language 4 cuts a target at each `//&`, and takes stacks: full names behind `&`, and where the word
-///   leads to a profile, such names alone.
-/// - `BadCapability`: a word behind `capability` that is no capability's name.
-/// - `BadNetwork`: a first word behind `network` that is no domain, type or protocol, or a second one that can't stand behind it: behind a
-///   domain a type may stand, or a protocol where the domain has protocols, and behind a type or a protocol nothing.
+///   that is no name, or is `unconfined`. Language 4 cuts a target at each `//&`, and takes stacks: `&` and full names, and where the word leads to
+///   a profile, such names alone.
+/// - `BadCapability`: a word after `capability` that is no capability's name.
+/// - `BadNetwork`: a first word after `network` that is no domain, type or protocol, or a second one that may not follow it: a domain may be
+///   followed by a type, or by a protocol where the domain has protocols; a type and a protocol by nothing.
 /// - `RanOut`: the tokens end before the rule does.
 pub fn read_rule<'a>(
     language: Language,

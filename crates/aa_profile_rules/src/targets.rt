@@ -12,7 +12,7 @@ use aa_profile_parsing::{Fault, GrammarRefusal, Language, is_word_of, read_text,
 use aa_text_tokens::Spliced;
 use bitflags::Flags;
 
-// Whether where an exec word leads may have a name.
+// Whether an exec word with this destination may have a target.
 fn is_nameable(destination: Destination) -> bool
     ensures { result ≡ is_nameable destination }
 {
@@ -32,7 +32,7 @@ fn takes_target(access: Access) -> bool
     }
 }
 
-// Whether a text names what is there.
+// Whether a text is a name that a target with this destination may be.
 fn is_name_of(destination: Destination, text: &[u8]) -> bool
     ensures { result ≡ is_name_of destination text.now }
 {
@@ -43,7 +43,7 @@ fn is_name_of(destination: Destination, text: &[u8]) -> bool
     }
 }
 
-// Whether a text names what is there, by a language.
+// Whether a text may be a target with this destination, by a language.
 fn names_what_is(language: Language, destination: Destination, text: &[u8]) -> bool
     ensures { result ≡ names_what_is language destination text.now }
 {
@@ -63,7 +63,7 @@ fn is_target(language: Language, access: Access, text: &[u8]) -> bool
     }
 }
 
-// The target of an access, behind `->`, and what stands behind it.
+// The target of an access after `->`, and what follows it.
 fn read_named<'a>(
     language: Language,
     access: Access,
@@ -80,7 +80,7 @@ fn read_named<'a>(
     Ok((Some(target), behind))
 }
 
-// The target that tokens begin with, if they begin with `->`, and what stands behind it.
+// The target with which tokens begin, if they begin with `->`, and what follows it.
 pub fn read_target<'a>(
     language: Language,
     access: Access,

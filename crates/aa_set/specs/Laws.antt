@@ -1,4 +1,5 @@
--- The laws of the machine, and what they speak of: which lines change the policy set, which ones go back or on, and which ones mark it.
+-- The laws of the manager, and their definitions: which lines change the policy set, which ones undo, redo or go back to a mark, and which ones mark
+-- it.
 use Rattle.std.specs.Prelude.{◌≡◌, ◌≢◌, ℕ, ◌+◌, ◌≤◌, nat_le, length, Bool, true, false, not, ◌&&◌, if◌then◌else◌}
 use Rattle.std.specs.Prelude.{List, ◌∷◌, [], ◌++◌, IfOk, Option, Some, Result, Ok, Err}
 use Rattle.aa_text_files.specs.Files.{File}
@@ -19,7 +20,7 @@ abbrev pub is_change : Result (Option Command) Refusal → Bool
 is_change (Ok (Some (Make change))) = true
 is_change _ = false
 
--- a command goes back or on
+-- a command undoes, redoes or goes back to a mark
 abbrev pub goes : Result (Option Command) Refusal → Bool
 goes (Ok (Some (Undo n))) = true
 goes (Ok (Some (Redo n))) = true
@@ -31,14 +32,14 @@ abbrev pub marks : Result (Option Command) Refusal → Bool
 marks (Ok (Some (Mark name))) = true
 marks _ = false
 
--- a command asks for what the policy set says, or of what it consists
+-- a command asks for a decision of the policy set, or for its contents
 abbrev pub is_question : Result (Option Command) Refusal → Bool
 is_question (Ok (Some (Ask question))) = true
 is_question (Ok (Some Listed)) = true
 is_question (Ok (Some (Show name))) = true
 is_question _ = false
 
--- none of these lines goes back or on
+-- none of these lines undoes, redoes or goes back to a mark
 abbrev pub NoneGoes : List (List ℕ × Bool) → Type 0
 NoneGoes [] = Unit {0}
 NoneGoes (line ∷ lines) = (goes (command_in line.0) ≡ false) × NoneGoes lines
@@ -62,7 +63,7 @@ RefusedLineLeavesAll =
     → is_refusal (line_outcome files managed line flag).reply ≡ true
     → (line_outcome files managed line flag).managed ≡ managed
 
--- So does any line whose command neither changes nor goes back or on, nor marks.
+-- So does any line whose command neither changes, nor undoes, redoes or goes back to a mark, nor marks.
 abbrev pub OtherLineLeavesAll : Type 0
 OtherLineLeavesAll =
     (files : List File) (managed : Managed) (line : List ℕ) (flag : Bool)
@@ -79,7 +80,8 @@ MarkLeavesSets =
     → let after = (line_outcome files managed line flag).managed in
     after ≡ record managed { machine = record managed.machine { marks = after.machine.marks } }
 
--- After lines of which none goes back or on, undoing as many changes as were accepted gives back the policy set from before them.
+-- After lines of which none undoes, redoes or goes back to a mark, undoing as many changes as were accepted gives back the policy set from before
+-- them.
 abbrev pub UndoGivesBack : Type 0
 UndoGivesBack =
     (files : List File) (managed : Managed) (lines : List (List ℕ × Bool))
@@ -94,7 +96,7 @@ SetDecidesAnswer =
     → one.machine.now ≡ other.machine.now
     → (line_outcome files one line flag).reply ≡ (line_outcome files other line flag).reply
 
--- No policy set that a run comes to has two profiles of one name.
+-- No policy set of a run has two profiles of one name.
 abbrev pub SetsHaveDistinctNames : Type 0
 SetsHaveDistinctNames =
     (files : List File) (language : Language) (force_complain : Bool) (lines : List (List ℕ × Bool))
@@ -113,19 +115,20 @@ StepsReturn =
     (n : ℕ) (managed : Managed)
     → IfOk (undone n managed) (λ after. redone n after ≡ Ok managed) × IfOk (redone n managed) (λ after. undone n after ≡ Ok managed)
 
--- What is written for the whole lines of an input, for some flags on them, is a front of what is written for that input and any more, for some flags.
+-- What is written for the whole lines of an input, for some flags on them, is a prefix of what is written for that input and any more, for some
+-- flags.
 abbrev pub SoFarIsFront : Type 0
 SoFarIsFront =
     (files : List File) (begin : Managed) (input more : List ℕ) (flags : List Bool)
     → (later : List Bool) × (rest : List ℕ)
     × (output files begin (input ++ more) later ≡ output_so_far files begin input flags ++ rest)
 
--- none of these flags says that a line found no memory
+-- none of these flags says that memory ran out at a line
 abbrev pub NoneFlagged : List Bool → Type 0
 NoneFlagged [] = Unit {0}
 NoneFlagged (flag ∷ flags) = (flag ≡ false) × NoneFlagged flags
 
--- Two runs over the same bytes, in whatever pieces these come, give the same replies where no line of either found no memory.
+-- Two runs over the same bytes, in whatever pieces these come, give the same replies where memory ran out at no line of either.
 abbrev pub PiecesChangeNoReply : Type 0
 PiecesChangeNoReply =
     (files : List File) (begin : Managed) (input : List ℕ) (some others : List Bool)
@@ -145,22 +148,22 @@ BackNeverFails =
     → is_marked name managed.machine ≡ true
     → (outcome.reply ≡ Done) × (all_sets outcome.managed.machine ≡ all_sets managed.machine) × (outcome.managed.machine.marks ≡ managed.machine.marks)
 
--- With its reply a command leaves what a name marks: it isn't a change accepted with fewer earlier policy sets than so many, and gives the name to no
--- other set.
+-- A command with its reply leaves what a name marks: it isn't a change accepted with fewer earlier policy sets than so many, and gives the name to
+-- no other set.
 abbrev pub MarkStands : List ℕ → ℕ → Managed → Result (Option Command) Refusal → Reply → Type 0
 MarkStands name number managed (Ok (Some (Make change))) reply = is_refusal reply ≡ false → number ≤ length managed.machine.earlier
 MarkStands name number managed (Ok (Some (Mark other))) reply = is_refusal reply ≡ false → other ≢ name
 MarkStands name number managed _ reply = Unit {0}
 
--- and so each of these lines
+-- each of these lines leaves what a name marks
 abbrev pub LeaveMark : List File → List ℕ → ℕ → Managed → List (List ℕ × Bool) → Type 0
 LeaveMark files name number managed [] = Unit {0}
 LeaveMark files name number managed (line ∷ lines) =
     let first = line_outcome files managed line.0 line.1 in
     MarkStands name number managed (command_in line.0) first.reply × LeaveMark files name number first.managed lines
 
--- Whatever lines follow in a run on an accepted `mark` of a name, as long as they leave what it marks, `back` of it
--- gives back the very policy set that was marked, and the sets before it.
+-- Whatever lines follow in a run after an accepted `mark` of a name, as long as they leave what it marks, `back` of it gives back the very policy
+-- set that was marked, and the sets before it.
 abbrev pub MarkGivesBack : Type 0
 MarkGivesBack =
     (files : List File) (language : Language) (force_complain : Bool) (before lines : List (List ℕ × Bool)) (line name : List ℕ) (flag : Bool)

@@ -1,4 +1,4 @@
--- The texts of replies (docs/commands.md, "Replies").
+-- The text of replies (docs/commands.md, "Replies").
 use Rattle.std.specs.Prelude.{ℕ, Bool, true, false, Option, None, Some, List, [], ◌++◌, codes}
 use Rattle.std.specs.Fmt.{decimal}
 use Rattle.aa_set_answers.specs.Answers.{line_with}
@@ -10,12 +10,12 @@ use Rattle.aa_set_commands.specs.declared.refusal.Refusal.{Refusal}
 use Rattle.aa_set_manager.specs.declared.reply.Reply.{Reply}
 use Rattle.aa_set_manager.specs.declared.reply.Reply.TheVariants.{Silent, Done, Refused, Answered}
 
--- how a place is written, behind a blank: the file's name and the offset in bytes
+-- how a place is written, after a blank: the file's name and the offset in bytes
 abbrev pub place_text : List File → Option Place → List ℕ
 place_text files None = []
 place_text files (Some place) = codes " " ++ written_text (name_at files place.file) ++ codes " " ++ decimal place.at
 
--- the one line that tells a refusal
+-- the one line that prints a refusal
 abbrev pub refusal_text : List File → Refusal → List ℕ
 refusal_text files refusal =
     line_with (codes "refused " ++ decimal (number_of refusal.refusal) ++ codes " " ++ name_of refusal.refusal ++ place_text files refusal.place)

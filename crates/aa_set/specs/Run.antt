@@ -1,5 +1,4 @@
--- The run of lines: what an input is answered, line by line, by the machine that keeps whole policy sets
--- (docs/guarantees.md).
+-- The run of lines: the replies to an input, line by line, by the machine that keeps whole policy sets (docs/guarantees.md).
 use Rattle.std.specs.Prelude.{ℕ, Bool, false, List, [], ◌∷◌, length}
 use Rattle.std.specs.Prelude.{Option, IfSome, ◌≡◌, ◌≤◌, count_by}
 use Rattle.std.specs.List.{flat_map}
@@ -23,7 +22,7 @@ abbrev pub after_lines : List File → Managed → List (List ℕ × Bool) → M
 after_lines files managed [] = managed
 after_lines files managed (line ∷ lines) = after_lines files (line_outcome files managed line.0 line.1).managed lines
 
--- lines with their flags; one without a flag found its memory
+-- lines with their flags; memory didn't run out at one without a flag
 abbrev pub flagged : List (List ℕ) → List Bool → List (List ℕ × Bool)
 flagged [] flags = []
 flagged (line ∷ lines) [] = (line, false) ∷ flagged lines []
@@ -33,7 +32,7 @@ flagged (line ∷ lines) (flag ∷ flags) = (line, flag) ∷ flagged lines flags
 abbrev pub replies : List File → Managed → List ℕ → List Bool → List Reply
 replies files begin input flags = replies_to files begin (flagged (lines input) flags)
 
--- what is written for an input: the texts of its replies, joined
+-- what is written for an input: the text of its replies, joined
 abbrev pub output : List File → Managed → List ℕ → List Bool → List ℕ
 output files begin input flags = flat_map (reply_text files) (replies files begin input flags)
 
@@ -48,11 +47,11 @@ pub record IsAnswered (files : List File) (begin : Managed) (before now : Option
   pub written : Appends before now (output files begin input flags)
   pub summed : SumsUp summary (replies files begin input flags)
 
--- the input that a reader has left was answered, where its bytes are known
+-- the input that a reader still had was answered, where its bytes are known
 abbrev pub IsLeftAnswered : List File → Managed → (left before now : Option (List ℕ)) → Summary → Type 0
 IsLeftAnswered files begin left before now summary = IfSome left (IsAnswered files begin before now summary)
 
--- what is written for the whole lines of an input, those that a line feed ends: the texts of their replies, joined
+-- what is written for the whole lines of an input, those that a line feed ends: the text of their replies, joined
 abbrev pub output_so_far : List File → Managed → List ℕ → List Bool → List ℕ
 output_so_far files begin input flags =
     flat_map (reply_text files) (replies_to files begin (flagged (whole_lines input) flags))
@@ -62,7 +61,7 @@ pub record IsAnsweredSoFar (files : List File) (begin : Managed) (before now : O
   pub flags : List Bool
   pub written : Appends before now (output_so_far files begin input flags)
 
--- For some flags on the lines of an input, what was written is a front of the output for it.
+-- For some flags on the lines of an input, what was written is a prefix of the output for it.
 pub record IsFrontAnswered (files : List File) (begin : Managed) (before now : Option (List ℕ)) (input : List ℕ) : Type 0 where
   pub flags : List Bool
   pub written : AppendsFront before now (output files begin input flags)

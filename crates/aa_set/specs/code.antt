@@ -1,2 +1,2 @@
--- What is about the code: what the loop over pieces of an input keeps true.
+-- Definitions about the code: the invariant of the loop over pieces of an input.
 pub mod Session

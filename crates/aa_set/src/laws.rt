@@ -1,4 +1,4 @@
-//! What holds of the machine whatever it is told, as laws over the definitions that `run` and `Manager` are proved to
+//! Properties of the policy set with its history, whatever lines it is given, as laws over the definitions that `run` and `Manager` are proved to
 //! follow.
 
 ghost use Rattle.aa_set.specs.Laws.{BackNeverFails, BackTwiceIsOnce, MarkGivesBack, MarkLeavesSets, SameMarksLeadToOne};
@@ -13,12 +13,11 @@ use aa_history::{
 };
 use aa_set_manager::what_changes_keep;
 
-/// A refused line leaves the policy set, both lists of sets and the marks, and so does any line whose command neither changes nor goes back or on nor
-/// marks, as a question or a blank one. After lines of which none goes back or on, undoing as many changes as were accepted gives back the
-/// very policy set from before them, with its history. Undoing some changes and then others is undoing them at once, and so with redoing; and
-/// redoing what was undone gives back policy set and history, as undoing what was redone does. The reply to
-/// a question, to `list` and to `show` depends on the policy set alone, so each request then gets the answer that it had. No policy set that a run
-/// comes to has two profiles of one name.
+/// A refused line changes neither the policy set nor its history nor the marks, and neither does any line that is no change, no undo, no redo and no
+/// mark, as a question or a blank line. After lines of which none undoes or redoes, undoing as many changes as were accepted restores the very
+/// policy set from before them, with its history. Undoing some changes and then others is undoing them at once, and likewise for redoing; and
+/// redoing what was undone restores policy set and history, as undoing what was redone does. The reply to a question, to `list` and to `show`
+/// depends on the policy set alone, so each request then gets the answer that it had. No policy set in a run has two profiles of one name.
 pub fn the_way_back()
     ensures refused_line_leaves_all { RefusedLineLeavesAll }
     ensures other_line_leaves_all { OtherLineLeavesAll }
@@ -35,11 +34,10 @@ pub fn the_way_back()
     what_changes_keep();
 }
 
-/// A line that marks leaves all but the marks. A name that is marked always leads back, whether memory is left or not,
-/// and going there drops nothing that could be undone or redone, and no mark. Whatever lines follow on a `mark`, as
-/// long as no change is accepted with fewer changes made than there were at the mark, and the name isn't given to
-/// another policy set, `back` gives back the very policy set that was marked, with its history. Two names of one policy
-/// set lead to one place, and going to a mark twice is going there once.
+/// A line that marks changes nothing but the marks. Going to a name that is marked always succeeds, whether memory is left or not, and drops nothing
+/// that could be undone or redone, and no mark. Whatever lines follow a `mark`, as long as no change is accepted with fewer changes made than there
+/// were at the mark, and the name isn't given to another policy set, `back` restores the very policy set that was marked, with its history. Two
+/// names of one policy set lead to one place, and going to a mark twice is going there once.
 pub fn where_marks_lead()
     ensures mark_leaves_sets { MarkLeavesSets }
     ensures back_never_fails { BackNeverFails }
@@ -52,14 +50,14 @@ pub fn where_marks_lead()
     marks_lead_back::<Sequence<Entry>>();
 }
 
-/// What a run writes before a fault of its reader, the replies to the whole lines that were read, is a front of what a
-/// run writes that reads these bytes and any more to the end: for some flags on lines that found no memory.
+/// What a run writes before a fault of its reader, the replies to the whole lines that were read, is a prefix of what a run writes that reads these
+/// bytes and any more to the end: for some choice of the lines for which memory runs out.
 pub fn what_faults_leave()
     ensures { SoFarIsFront }
 {}
 
-/// The pieces in which an input comes change no reply: two runs that read the same bytes to the end give the same replies, where no line of either
-/// found no memory.
+/// The pieces in which an input is read change no reply: two runs that read the same bytes to the end give the same replies, where memory ran out
+/// for no line of either.
 pub fn pieces_change_no_reply()
     ensures { PiecesChangeNoReply }
 {}

@@ -1,4 +1,5 @@
-//! A set of AppArmor profiles that answers requests, takes changes and undoes them.
+//! A set of AppArmor profiles that answers requests, takes changes, and undoes and redoes them: `Manager` for callers in the same program, and
+//! `run`, which reads commands from lines and writes replies. `docs/commands.md` has the commands and replies.
 #![tactic(auto)]
 
 mod laws;

@@ -26,13 +26,13 @@ use thiserror::Error;
 /// How many commands were accepted and how many refused. A blank line is neither.
 #[derive(Clone, Copy, Debug, PartialEq, Eq)]
 pub struct Summary {
-    /// The lines that were answered other than by a refusal.
+    /// The lines whose reply was no refusal.
     pub accepted: u64,
-    /// The lines that were answered by a refusal.
+    /// The lines whose reply was a refusal.
     pub refused: u64,
 }
 
-/// Why a run stopped before the end of its input.
+/// Why a run stops before the end of its input.
 #[derive(Clone, Copy, Debug, PartialEq, Eq, Error)]
 pub enum RunFault {
     /// A read failed, or the input didn't end within 2,147,483,648 reads.
@@ -57,23 +57,22 @@ pub struct Session {
 /// How many reads `run` makes at most.
 pub const MOST_READS: u32 = 2_147_483_648;
 
-// How many bytes a read asks for, and how many wait at most to be written.
+// How many bytes a read asks for, and how many bytes of replies wait at most to be written.
 const PIECE: usize = 65_536;
 
-/// Answers the command lines of a reader, one after another, and writes the replies: `run_with` with 2,147,483,648 reads.
-/// Files are read by the language of AppArmor 3.
+/// Reads command lines, answers one after another, and writes the replies: `run_with` with 2,147,483,648 reads. Files are read by the language of
+/// AppArmor 3.
 ///
-/// The run begins with the empty policy set. A line ends at a line feed, the last one at the input's end too; one of more
-/// than 65,536 bytes is refused when it ends. The replies to all lines that were read are written before the next read.
-/// The buffers for lines and replies are made before the first read, and never grow; a line that undoes changes takes no
-/// memory at all.
+/// The run begins with the empty policy set. A line ends at a line feed, the last one at the input's end too; one of more than 65,536 bytes is
+/// refused when it ends. The replies to all lines that were read are written before the next read. The buffers for lines and replies are allocated
+/// before the first read, and never grow; a line that undoes changes takes no memory.
 ///
 /// # Errors
 ///
 /// - `Memory`: no memory was left for the buffers. Nothing was read or written.
 /// - `Read`: a read failed, or 2,147,483,648 reads were made and each gave at least one byte. The replies to the whole lines that were
 ///   read are written, and nothing else: an unfinished line has no reply.
-/// - `Write`: a write failed. What was written is a front of the replies to what was read.
+/// - `Write`: a write failed. What was written is a prefix of the replies to what was read.
 pub fn run<S: Source, W: Sink>(
     alloc: Global,
     files: &Files,
@@ -92,7 +91,7 @@ pub fn run<S: Source, W: Sink>(
     ensures end { OnOk result (S.ended reader.new ≡ true) }
     ensures whole { OnOk result ((S.failed reader.new ≡ false) × (W.failed writer.new ≡ false)) }
 
-    // It reads no more often than it may.
+    // The reader reads no more often than it may.
     ensures bound { S.reads reader.new ≤ S.reads reader.old + most_reads }
 
     // When each fault comes.
@@ -101,7 +100,7 @@ pub fn run<S: Source, W: Sink>(
     ensures given { IsErrOf result RunFault.Read → S.failed reader.new ≡ false → HasGiven most_reads (S.left reader.old) (S.left reader.new) }
     ensures write { IsErrOf result RunFault.Write → W.failed writer.new ≡ true }
 
-    // What stands after each.
+    // What holds after each fault.
     ensures so_far { IsErrOf result RunFault.Read → HoldsOfRead (S.left reader.old) (S.left reader.new)
         (IsAnsweredSoFar files.now (new_manager force_complain) (W.written writer.old) (W.written writer.new)) }
     ensures front { IsErrOf result RunFault.Write → HoldsOfRead (S.left reader.old) (S.left reader.new)
@@ -111,11 +110,11 @@ pub fn run<S: Source, W: Sink>(
     run_with(alloc, files, force_complain, MOST_READS, reader, writer)
 }
 
-/// Answers the command lines of a reader as `run` does, over files that are read by a language: `run_with_in` with 2,147,483,648 reads.
+/// Answers command lines as `run` does, over files that are read by this language: `run_with_in` with 2,147,483,648 reads.
 ///
 /// # Errors
 ///
-/// Those of `run`.
+/// As for `run`.
 pub fn run_in<S: Source, W: Sink>(
     alloc: Global,
     language: Language,
@@ -135,7 +134,7 @@ pub fn run_in<S: Source, W: Sink>(
     ensures end { OnOk result (S.ended reader.new ≡ true) }
     ensures whole { OnOk result ((S.failed reader.new ≡ false) × (W.failed writer.new ≡ false)) }
 
-    // It reads no more often than it may.
+    // The reader reads no more often than it may.
     ensures bound { S.reads reader.new ≤ S.reads reader.old + most_reads }
 
     // When each fault comes.
@@ -144,7 +143,7 @@ pub fn run_in<S: Source, W: Sink>(
     ensures given { IsErrOf result RunFault.Read → S.failed reader.new ≡ false → HasGiven most_reads (S.left reader.old) (S.left reader.new) }
     ensures write { IsErrOf result RunFault.Write → W.failed writer.new ≡ true }
 
-    // What stands after each.
+    // What holds after each fault.
     ensures so_far { IsErrOf result RunFault.Read → HoldsOfRead (S.left reader.old) (S.left reader.new)
         (IsAnsweredSoFar files.now (new_manager_in language force_complain) (W.written writer.old) (W.written writer.new)) }
     ensures front { IsErrOf result RunFault.Write → HoldsOfRead (S.left reader.old) (S.left reader.new)
@@ -162,11 +161,11 @@ pub fn run_in<S: Source, W: Sink>(
     )
 }
 
-/// Answers the command lines of a reader as `run` does, by at most so many reads: the end of the input must be seen within them.
+/// Answers command lines as `run` does, by at most `reads` reads: the end of the input must be seen within them.
 ///
 /// # Errors
 ///
-/// Those of `run`, with `reads` in place of 2,147,483,648. With none no read is made, and the fault is `Read`.
+/// As for `run`, with `reads` in place of 2,147,483,648. Where that is 0 no read is made, and the fault is `Read`.
 pub fn run_with<S: Source, W: Sink>(
     alloc: Global,
     files: &Files,
@@ -186,7 +185,7 @@ pub fn run_with<S: Source, W: Sink>(
     ensures end { OnOk result (S.ended reader.new ≡ true) }
     ensures whole { OnOk result ((S.failed reader.new ≡ false) × (W.failed writer.new ≡ false)) }
 
-    // It reads no more often than it may.
+    // The reader reads no more often than it may.
     ensures bound { S.reads reader.new ≤ S.reads reader.old + reads }
 
     // When each fault comes.
@@ -195,7 +194,7 @@ pub fn run_with<S: Source, W: Sink>(
     ensures given { IsErrOf result RunFault.Read → S.failed reader.new ≡ false → HasGiven reads (S.left reader.old) (S.left reader.new) }
     ensures write { IsErrOf result RunFault.Write → W.failed writer.new ≡ true }
 
-    // What stands after each.
+    // What holds after each fault.
     ensures so_far { IsErrOf result RunFault.Read → HoldsOfRead (S.left reader.old) (S.left reader.new)
         (IsAnsweredSoFar files.now (new_manager force_complain) (W.written writer.old) (W.written writer.new)) }
     ensures front { IsErrOf result RunFault.Write → HoldsOfRead (S.left reader.old) (S.left reader.new)
@@ -213,11 +212,11 @@ pub fn run_with<S: Source, W: Sink>(
     )
 }
 
-/// Answers the command lines of a reader as `run_in` does, by at most so many reads: the end of the input must be seen within them.
+/// Answers command lines as `run_in` does, by at most `reads` reads: the end of the input must be seen within them.
 ///
 /// # Errors
 ///
-/// Those of `run`, with `reads` in place of 2,147,483,648. With none no read is made, and the fault is `Read`.
+/// As for `run`, with `reads` in place of 2,147,483,648. Where that is 0 no read is made, and the fault is `Read`.
 pub fn run_with_in<S: Source, W: Sink>(
     alloc: Global,
     language: Language,
@@ -238,7 +237,7 @@ pub fn run_with_in<S: Source, W: Sink>(
     ensures end { OnOk result (S.ended reader.new ≡ true) }
     ensures whole { OnOk result ((S.failed reader.new ≡ false) × (W.failed writer.new ≡ false)) }
 
-    // It reads no more often than it may.
+    // The reader reads no more often than it may.
     ensures bound { S.reads reader.new ≤ S.reads reader.old + reads }
 
     // When each fault comes.
@@ -247,7 +246,7 @@ pub fn run_with_in<S: Source, W: Sink>(
     ensures given { IsErrOf result RunFault.Read → S.failed reader.new ≡ false → HasGiven reads (S.left reader.old) (S.left reader.new) }
     ensures write { IsErrOf result RunFault.Write → W.failed writer.new ≡ true }
 
-    // What stands after each.
+    // What holds after each fault.
     ensures so_far { IsErrOf result RunFault.Read → HoldsOfRead (S.left reader.old) (S.left reader.new)
         (IsAnsweredSoFar files.now (new_manager_in language force_complain) (W.written writer.old) (W.written writer.new)) }
     ensures front { IsErrOf result RunFault.Write → HoldsOfRead (S.left reader.old) (S.left reader.new)
@@ -318,7 +317,7 @@ fn serve<S: Source, W: Sink>(
     Err(RunFault::Read)
 }
 
-// Reads the next piece of the input, where no reply waits to be written. Each read of a run is made here.
+// Reads the next piece of the input, where no reply waits to be written. All reads of a run are made here.
 fn read_piece<S: Source>(reader: &mut S, waiting: &[u8], piece: &mut [u8]) -> Result<usize, Failed>
     requires nothing_waits { waiting.now ≡ [] }
     requires countable { S.reads reader.old < 2 ^ 64 - 1 }
@@ -334,7 +333,7 @@ fn read_piece<S: Source>(reader: &mut S, waiting: &[u8], piece: &mut [u8]) -> Re
     reader.read(piece)
 }
 
-// A session of the empty policy set, an empty line buffer, and a buffer for a piece of the input.
+// A session with the empty policy set, an empty line buffer, and a buffer for a piece of the input.
 fn prepared(
     alloc: Global,
     language: Language,
@@ -357,7 +356,7 @@ fn prepared(
     Ok((session, held, vec![in alloc; 0; PIECE]?))
 }
 
-// Answers each line that ends in a piece of the input, and writes all that waits.
+// Answers each line that ends in a piece of the input, and writes all replies that wait.
 fn turn<W: Sink>(
     files: &Files,
     session: &mut Session,
@@ -437,7 +436,7 @@ fn end_line<W: Sink>(
     outcome
 }
 
-// Answers each line that ends in a piece of the input, and holds what stands behind the last one.
+// Answers each line that ends in a piece of the input, and keeps what follows the last one.
 fn feed<W: Sink>(
     files: &Files,
     session: &mut Session,
@@ -461,7 +460,7 @@ fn feed<W: Sink>(
     Ok(())
 }
 
-// Answers a line that the input's end leaves unfinished, and writes all that waits.
+// Answers a line that the input's end leaves unfinished, and writes all replies that wait.
 fn finish<W: Sink>(
     files: &Files,
     session: &mut Session,

@@ -1,4 +1,4 @@
-//! The texts of replies, written to a writer without memory.
+//! The texts of replies, written to a writer without allocating.
 
 ghost use Rattle.std.specs.Prelude.{◌≡◌, ◌++◌, true, OnOk, OnErr};
 ghost use Rattle.std.specs.Fmt.{decimal};
@@ -13,11 +13,11 @@ use aa_set_manager::Reply;
 use aa_text_files::{Files, Place};
 use itoa::Buffer;
 
-/// Writes a reply to a writer, behind what waits to be written. It takes no memory. The places of refusals are those of these files.
+/// Writes a reply to a writer, after what waits to be written. It takes no memory. The places of refusals are in these files.
 ///
 /// # Errors
 ///
-/// `Failed` where the writer has a fault. Some front of what waited and the reply behind it is then written.
+/// `Failed` where the writer has a fault. A prefix of what waited, followed by the reply, is then written.
 pub fn write_reply<W: Sink>(
     writer: &mut W,
     waiting: &mut Vec<u8>,
@@ -59,7 +59,7 @@ fn write_refusal<W: Sink>(
     write_behind(writer, waiting, b"\n")
 }
 
-// Writes a place, behind a blank: the file's name and the offset in bytes.
+// Writes a place after a blank: the file's name and the offset in bytes.
 fn write_place<W: Sink>(
     writer: &mut W,
     waiting: &mut Vec<u8>,
@@ -81,7 +81,7 @@ fn write_place<W: Sink>(
     write_number(writer, waiting, place.at)
 }
 
-// The name of the file at a place among the files.
+// The name of the file at an index.
 fn file_name(files: &Files, file: usize) -> &[u8]
     ensures { result.now ≡ name_at files.now file }
 {
@@ -91,7 +91,7 @@ fn file_name(files: &Files, file: usize) -> &[u8]
     }
 }
 
-// Writes a text: between quotes, or in hexadecimal where one of its bytes isn't shown.
+// Writes a text: in quotes, or in hexadecimal where one of its bytes isn't shown.
 fn write_text<W: Sink>(writer: &mut W, waiting: &mut Vec<u8>, text: &[u8]) -> Result<(), Failed>
     ensures ok { OnOk result
         (WritesBehind (W.written writer.old) (W.written writer.new) waiting.old.items waiting.new.items (written_text text.now)) }

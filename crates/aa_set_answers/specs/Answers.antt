@@ -1,4 +1,4 @@
--- Answers: what a policy set says to a question, or of one of its profiles, and the lines that tell it (docs/commands.md).
+-- Answers: what a policy set answers to a question, or what one of its profiles holds, and the lines that print it (docs/commands.md).
 use Rattle.std.specs.Prelude.{ℕ, Bool, if◌then◌else◌, List, [], ◌∷◌, ◌++◌, Option, None, Some, Result, Ok, Err, codes, is_none}
 use Rattle.std.specs.Option.{option_map}
 use Rattle.aa_bytes.specs.Bytes.{line_feed}
@@ -24,17 +24,17 @@ use Rattle.aa_set_answers.specs.Show.{show_lines}
 use Rattle.aa_set_answers.specs.StackNames.{stack_name}
 use Rattle.aa_set_answers.specs.Askers.{asker, confinement}
 
--- a line: a text, and a line feed
+-- a line: text, and a line feed
 abbrev pub line_with : List ℕ → List ℕ
 line_with text = text ++ line_feed ∷ []
 
--- the verdict on a request, by what confines who asks; where nothing does, or a name alone, there is none
+-- the verdict on a request, by what confines the asker; where nothing does, or a name alone, there is none
 abbrev pub confined_answer : Confinement → Request → Option Verdict
 confined_answer Unconfined request = None
 confined_answer ByName request = None
 confined_answer (By section mediation) request = Some (decided_by section mediation request)
 
--- what a request is answered by a verdict: its word, and the line that logs it, where it is logged; where there is none, the word is `unconfined`
+-- the answer to a request by a verdict: its word, and the line that logs it, where it is logged; where there is no verdict, the word is `unconfined`
 abbrev pub told_verdict : List ℕ → Request → Option Verdict → Answered
 told_verdict who request None = record { answer = None; text = codes "unconfined"; logged = [] }
 told_verdict who request (Some verdict) = record {
@@ -43,32 +43,32 @@ told_verdict who request (Some verdict) = record {
   logged = log_line who request verdict;
 }
 
--- what it is answered by what confines who asks
+-- the answer to a request by what confines the asker
 abbrev pub confined_told : List ℕ → Request → Confinement → Answered
 confined_told who request confinement = told_verdict who request (confined_answer confinement request)
 
--- how it is told that a program's environment is scrubbed
+-- the text that says that a program's environment is scrubbed
 abbrev pub scrub_text : Bool → List ℕ
 scrub_text scrub = if scrub then codes " scrub" else []
 
--- how it is told that a program runs under a profile, or a child or hat of it
+-- the text that says that a program runs under a profile, or a child or hat of it
 abbrev pub under_text : Profile → Option ℕ → Bool → List ℕ
 under_text profile child scrub = codes "allow to " ++ written_text (full_name_at profile child) ++ scrub_text scrub
 
--- the name of what a stack is on
+-- the name of the base of a stack
 abbrev pub base_name : Base → List ℕ
 base_name (OnProfile entry child) = full_name_at entry.profile child
 base_name OnUnconfined = codes "unconfined"
 
--- how it is told that it runs under a stack of these members, on what has this name, if it is on something
+-- the text that says that it runs under a stack of these members, on a base of this name, if it has one
 abbrev pub stack_text : Option (List ℕ) → List (List ℕ) → Bool → List ℕ
 stack_text base members scrub = codes "allow to " ++ written_text (stack_name base members) ++ scrub_text scrub
 
--- how it is told that it runs under no profile
+-- the text that says that it runs under no profile
 abbrev pub unconfined_text : Bool → List ℕ
 unconfined_text scrub = codes "allow unconfined" ++ scrub_text scrub
 
--- under what a program runs, and whether its environment is scrubbed; where it isn't started, that is the answer's word
+-- under which profile a program runs, and whether its environment is scrubbed; where it isn't started, the answer's word
 abbrev pub started_text : Answer → Started → Bool → List ℕ
 started_text answer (Under entry child) scrub = under_text entry.profile child scrub
 started_text answer Free scrub = unconfined_text scrub
@@ -76,7 +76,7 @@ started_text answer (Stacked base members) scrub = stack_text (option_map base_n
 started_text answer Null scrub = codes "complain null"
 started_text answer Nowhere scrub = answer_word answer
 
--- what the start of a program is answered: under what it runs, and the line that logs it, where it is logged
+-- the answer to the start of a program: under which profile it runs, and the line that logs it, where it is logged
 abbrev pub exec_told : List ℕ → List ℕ → ExecAnswer → Answered
 exec_told who path answer = record {
   answer = Some answer.verdict.answer;
@@ -84,28 +84,28 @@ exec_told who path answer = record {
   logged = exec_line who path answer.verdict;
 }
 
--- what a question is answered, by who asks, if it is there
+-- the answer to a question, by the asker, if it exists
 abbrev pub told_by : List Loaded → Question → Option Asker → Answered
 told_by entries (OfAccess who request) asker = confined_told who request (confinement asker)
 told_by entries (OfExec who owned path) asker = exec_told who path (exec_answer entries asker owned path)
 
--- who a question says asks
+-- the asker that a question names
 abbrev pub who_asks : Question → List ℕ
 who_asks (OfAccess who request) = who
 who_asks (OfExec who owned path) = who
 
--- what a question is answered
+-- the answer to a question
 abbrev pub answered : List Loaded → Question → Result Answered Refusal
 answered entries question = elim (asker entries (who_asks question)) [
   | None ↦ Err (plain Absent)
   | Some asker ↦ Ok (told_by entries question asker)
 ]
 
--- the lines of an answer: what is told of it, and the line that logs it, where it is logged
+-- the lines of an answer: its text, and the line that logs it, where it is logged
 abbrev pub lines_of : Answered → List ℕ
 lines_of told = line_with told.text ++ told.logged
 
--- the lines of what was answered, or the refusal
+-- the lines of the answer, or the refusal
 abbrev pub reply_of : Result Answered Refusal → Result (List ℕ) Refusal
 reply_of (Ok told) = Ok (lines_of told)
 reply_of (Err refusal) = Err refusal
@@ -114,7 +114,7 @@ reply_of (Err refusal) = Err refusal
 abbrev pub reply_lines : List Loaded → Question → Result (List ℕ) Refusal
 reply_lines entries question = reply_of (answered entries question)
 
--- a question is asked of a profile, a child or a hat that isn't there
+-- the asker of a question is a profile, a child or a hat that doesn't exist
 abbrev pub asks_absent : List Loaded → Question → Bool
 asks_absent entries question = is_none (asker entries (who_asks question))
 
@@ -125,6 +125,6 @@ shown entries name = elim (named_asker entries (full_name name)) [
   | Some named ↦ Ok (show_lines named.entry named.child)
 ]
 
--- what `show` names isn't there
+-- what `show` names doesn't exist
 abbrev pub shows_absent : List Loaded → List ℕ → Bool
 shows_absent entries name = is_none (named_asker entries (full_name name))

@@ -1,4 +1,4 @@
--- What ties the full names that `list` tells to those that are asked and shown (docs/commands.md, "Full names").
+-- The law that ties the full names that `list` prints to those in questions and in `show` (docs/commands.md, "Full names").
 use Rattle.std.specs.Prelude.{◌≡◌, ℕ, true, List, Option, None, Some, slice_get}
 use Rattle.std.specs.List.{Contains}
 use Rattle.aa_decide.specs.Exec.{Asker, named_asker}
@@ -12,12 +12,12 @@ use Rattle.aa_profile_data.specs.Names.{is_top_name}
 use Rattle.aa_set_answers.specs.ProfileNames.{full_name_at}
 use Rattle.aa_set_answers.specs.Askers.{asker}
 
--- a profile has a child or a hat at a place; at none it stands itself
+-- a profile has a child or a hat at an index; without an index it is the profile itself
 abbrev pub StandsAt : Profile → Option ℕ → Type 0
 StandsAt profile None = Unit {0}
 StandsAt profile (Some place) = (child : Child) × (slice_get profile.children place ≡ Some child)
 
--- `list` has a line of a profile, or of its child or hat at a place
+-- `list` has a line of a profile, or of its child or hat at an index
 abbrev pub IsListed : List Loaded → Asker → Type 0
 IsListed entries who = Contains entries who.entry × StandsAt who.entry.profile who.child
 
@@ -25,8 +25,8 @@ IsListed entries who = Contains entries who.entry × StandsAt who.entry.profile 
 abbrev pub HasFileNames : Profile → Type 0
 HasFileNames profile = (is_top_name profile.name ≡ true) × (are_distinct_children profile.children ≡ true)
 
--- In a policy set without two profiles of one name a full name that `list` tells leads back, as a name that asks and as one that is shown, to the
--- profile, child or hat that it was told for. The names of each file's profiles are such (`how_profiles_are_named` of `aa_profile`).
+-- In a policy set without two profiles of one name a full name that `list` prints leads back, in a question and in `show`, to the profile, child or
+-- hat that it was printed for. The names of each file's profiles are such (`how_profiles_are_named` of `aa_profile`).
 abbrev pub ListedNamesLeadBack : Type 0
 ListedNamesLeadBack =
     (entries : List Loaded) (who : Asker)

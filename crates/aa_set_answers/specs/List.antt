@@ -12,11 +12,11 @@ use Rattle.aa_set_answers.specs.States.{written_state}
 abbrev pub entry_count : Loaded → ℕ
 entry_count loaded = length loaded.profile.children + 1
 
--- how many all entries have
+-- how many profiles, children and hats all entries have
 abbrev pub count : List Loaded → ℕ
 count entries = sum_by entry_count entries
 
--- the line of a child or a hat by its place
+-- the line of a child or a hat by its index
 abbrev pub listed_child : Loaded → ℕ → Child → List ℕ
 listed_child loaded place child = written_state loaded (Some place) ++ line_feed ∷ []
 

@@ -1,5 +1,5 @@
--- The lines that show rules (docs/commands.md, "What is loaded"). What is written before a rule is told behind its first word: that it is
--- audited, that it denies, that it is about the owner's files alone, and that it is the last to say where a program goes.
+-- The lines that show rules (docs/commands.md, "What is loaded"). The qualifiers of a rule are printed after its first word: that it is audited,
+-- that it denies, that it is about the owner's files alone, and that it is the last to say where a program goes.
 use Rattle.std.specs.Prelude.{ℕ, Bool, false, ◌+◌, ◌-◌, ◌^◌, ◌==◌, if◌then◌else◌, List, [], ◌∷◌, ◌++◌, Option, None, Some, bit_and, codes}
 use Rattle.aa_profile_data.specs.Access.{letters_of}
 use Rattle.aa_profile_data.specs.ExecWords.{row}
@@ -20,11 +20,11 @@ use Rattle.aa_profile_data.specs.Kinds.{kind_name}
 use Rattle.aa_bytes.specs.Quoting.{written_text}
 use Rattle.aa_profile_data.specs.TableNames.{name_or_none}
 
--- a text, where something holds
+-- text, if something holds
 abbrev pub text_if : Bool → List ℕ → List ℕ
 text_if holds text = if holds then text else []
 
--- the words before a rule, each behind a blank
+-- the qualifiers of a rule, each after a blank
 abbrev pub qualifiers : Bool → Bool → Bool → List ℕ
 qualifiers audit deny owner = text_if audit (codes " audit") ++ text_if deny (codes " deny") ++ text_if owner (codes " owner")
 
@@ -42,7 +42,7 @@ exec_text (Some transition) = (row transition.word).text ++ target_text transiti
 abbrev pub access_text : FileRule → List ℕ
 access_text rule = letters_of rule.access.0 ++ exec_text rule.exec ++ target_text rule.link
 
--- the words before a rule on files: also that it decides after all others where a program goes
+-- the qualifiers of a rule on files: also that it decides after all others where a program goes
 abbrev pub file_qualifiers : FileRule → List ℕ
 file_qualifiers rule = qualifiers rule.audit rule.deny rule.owner ++ text_if (same_rank rule.rank Last) (codes " last")
 
@@ -58,30 +58,30 @@ all_capabilities = 2 ^ 41 - 1
 abbrev pub has_all : ℕ → Bool
 has_all set = bit_and set all_capabilities == all_capabilities
 
--- those of some names that a set has, each behind a blank, where the first has this number
+-- those of some names that a set has, each after a blank, where the first has this number
 abbrev pub names_from : ℕ → ℕ → List (List ℕ) → List ℕ
 names_from set number [] = []
 names_from set number (name ∷ names) = text_if (has_number set number) (codes " " ++ name) ++ names_from set (number + 1) names
 
--- the capabilities of a set, each behind a blank, in the order of their numbers, or that it has all
+-- the capabilities of a set, each after a blank, in the order of their numbers, or that it has all
 abbrev pub capabilities_text : ℕ → List ℕ
 capabilities_text set = if has_all set then codes " all" else names_from set 0 names
 
--- a rule on capabilities, before which no `owner` stands
+-- a rule on capabilities, which is never the owner's alone
 abbrev pub capability_text : CapRule → List ℕ
 capability_text rule = codes "capability" ++ qualifiers rule.audit rule.deny false ++ capabilities_text rule.caps
 
--- the domain that a rule is about; a missing one is told as `any`
+-- the domain that a rule is about; a missing one is printed as `any`
 abbrev pub domain_word : Option ℕ → List ℕ
 domain_word None = codes "any"
 domain_word (Some number) = name_or_none (domain_name number)
 
--- the type or the protocol, in the same way
+-- the type or the protocol that a rule is about; a missing one is printed as `any`
 abbrev pub kind_word : Option ℕ → List ℕ
 kind_word None = codes "any"
 kind_word (Some number) = name_or_none (kind_name number)
 
--- a rule on sockets, before which no `owner` stands
+-- a rule on sockets, which is never the owner's alone
 abbrev pub network_text : NetRule → List ℕ
 network_text rule =
     codes "network" ++ qualifiers rule.audit rule.deny false ++ codes " " ++ domain_word rule.domain ++ codes " " ++ kind_word rule.kind

@@ -29,16 +29,16 @@ body_lines attachments rules = flat_map attachment_line attachments ++ flat_map 
 abbrev pub child_word : Bool → List ℕ
 child_word hat = if hat then codes "  hat " else codes "  child "
 
--- the line of the child or hat at a place of a profile
+-- the line of the child or hat at an index of a profile
 abbrev pub child_line : Loaded → ℕ → Child → List ℕ
 child_line loaded place child = child_word child.hat ++ written_state loaded (Some place) ++ line_feed ∷ []
 
--- the lines of a child or a hat itself; where none stands at the place, none
+-- the lines of a child or a hat itself; none where there is none
 abbrev pub own_lines : Loaded → ℕ → Option Child → List ℕ
 own_lines loaded place None = []
 own_lines loaded place (Some child) = head_line loaded (Some place) child.audit ++ body_lines child.attachments child.rules
 
--- the lines of a profile, and behind its rules those of its children and hats; or the lines of its child or hat at a place
+-- the lines of a profile, followed by those of its children and hats; or the lines of its child or hat at an index
 abbrev pub show_lines : Loaded → Option ℕ → List ℕ
 show_lines loaded None =
     head_line loaded None loaded.profile.audit

@@ -15,11 +15,11 @@ mode_word Enforce = codes "enforce"
 mode_word Complain = codes "complain"
 mode_word Unconfined = codes "unconfined"
 
--- the word of a profile's state, or of that of its child or hat at a place: its mode, or `disabled` where the profile is
+-- the word of a profile's state, or of that of its child or hat at an index: its mode, or `disabled` where the profile is
 abbrev pub state_word : State → Option ℕ → List ℕ
 state_word Disabled child = codes "disabled"
 state_word (Modes modes) child = mode_word (mode_at modes child)
 
--- a profile, or its child or hat at a place, by its full name and its state
+-- a profile, or its child or hat at an index, by its full name and its state
 abbrev pub written_state : Loaded → Option ℕ → List ℕ
 written_state loaded child = written_text (full_name_at loaded.profile child) ++ codes " " ++ state_word loaded.state child

@@ -1,4 +1,4 @@
-//! What questions are answered, and the lines that tell what a profile consists of.
+//! Answers to questions, and the lines of the replies to questions and to `show`.
 
 ghost use Rattle.std.specs.Prelude.{◌≡◌, ◌++◌, [], codes, None, Some, Ok, IfOk, IfErr, OnOk, false};
 ghost use Rattle.aa_set_commands.specs.Question.{OfAccess, OfExec};
@@ -27,19 +27,20 @@ use aa_profile_data::Profile;
 use aa_set_commands::{Refusal, RefusalKind, plain};
 use std::alloc::{AllocError, Global};
 
-/// What a question is answered.
+/// The answer to a question.
 #[derive(Drop)]
 pub struct Answered {
-    /// The answer of the verdict on what is asked; none where nothing confines who asks for something else than the start of a program, or a name
-    /// alone.
+    /// The answer of the verdict; `None` where the asker is unconfined, or confined by its name alone, and asks for something other than the start
+    /// of a program.
     pub answer: Option<Answer>,
-    /// What is told of it, in one line without its line feed: the answer's word, `unconfined`, or under what a program runs that is started.
+    /// The text of the answer, one line without its line feed: the answer's word, `unconfined`, or under which profile a program runs that is
+    /// started.
     pub text: Sequence<u8>,
-    /// The line that logs it, with its line feed; empty where it isn't logged.
+    /// The audit line, with its line feed; empty where nothing is logged.
     pub logged: Sequence<u8>,
 }
 
-// What anything is answered where no rule is asked.
+// The answer to any request where no rule is looked at.
 fn unconfined(alloc: Global) -> Result<Answered, AllocError>
     ensures { IfOk result (λ told. told ≡ record { answer = None; text = codes "unconfined"; logged = [] }) }
 {
@@ -50,7 +51,7 @@ fn unconfined(alloc: Global) -> Result<Answered, AllocError>
     })
 }
 
-// What it is answered by a verdict.
+// The answer to a request by its verdict.
 fn told_verdict(
     alloc: Global,
     who: &[u8],
@@ -68,7 +69,7 @@ fn told_verdict(
     })
 }
 
-// What it is answered by what confines who asks.
+// The answer to a request by what confines the asker.
 fn confined_told(
     alloc: Global,
     who: &[u8],
@@ -87,11 +88,11 @@ fn confined_told(
     }
 }
 
-/// What a request of who asks by this full name, or as the word `unconfined`, is answered.
+/// The answer to a request of an asker by this full name, or by the word `unconfined`.
 ///
 /// # Errors
 ///
-/// `Absent` where no profile, child or hat of the full name is loaded, which is found without memory, and `Memory` where memory ran out.
+/// `Absent` where no profile, child or hat of the full name is loaded, which is found without allocating, and `Memory` where memory ran out.
 pub fn access_answer(
     alloc: Global,
     slots: &IndexedSlots<'_>,
@@ -109,7 +110,7 @@ pub fn access_answer(
     Ok(confined_told(alloc, who, request, confinement(asker))?)
 }
 
-// Puts behind a text that a program's environment is scrubbed, if it is.
+// Appends ` scrub` to a text, if a program's environment is scrubbed.
 fn push_scrub(text: &mut Vec<u8>, scrub: bool) -> Result<(), AllocError>
     ensures { OnOk result (text.new.items ≡ text.old.items ++ scrub_text scrub) }
 {
@@ -119,7 +120,7 @@ fn push_scrub(text: &mut Vec<u8>, scrub: bool) -> Result<(), AllocError>
     Ok(())
 }
 
-// How it is told that a program runs under a profile, or a child or hat of it.
+// The text for a program that runs under a profile, or a child or hat of it.
 fn under_text(
     alloc: Global,
     profile: &Profile,
@@ -135,7 +136,7 @@ fn under_text(
     Ok(text)
 }
 
-// How it is told that a program runs under a stack of these members, on what has this name, if it is on something.
+// The text for a program that runs under a stack of these members, on a base of this name, if it has one.
 fn stack_text(
     alloc: Global,
     base: Option<&[u8]>,
@@ -151,7 +152,7 @@ fn stack_text(
     Ok(text)
 }
 
-// The same of a stack that is on something, by slot; nothing, where the slot of that isn't filled.
+// The text for a program that runs under a stack on a base by slot; empty where the base's slot isn't filled.
 fn based_text(
     alloc: Global,
     slots: &IndexedSlots<'_>,
@@ -173,7 +174,7 @@ fn based_text(
     }
 }
 
-// The same of any stack.
+// The text for a program that runs under a stack.
 fn stacked_text(
     alloc: Global,
     slots: &IndexedSlots<'_>,
@@ -189,7 +190,7 @@ fn stacked_text(
     }
 }
 
-// How it is told that a program runs under no profile.
+// The text for a program that runs under no profile.
 fn unconfined_text(alloc: Global, scrub: bool) -> Result<Vec<u8>, AllocError>
     ensures { IfOk result (λ text. text.items ≡ unconfined_text scrub) }
 {
@@ -198,7 +199,7 @@ fn unconfined_text(alloc: Global, scrub: bool) -> Result<Vec<u8>, AllocError>
     Ok(text)
 }
 
-// How it is told under what a program runs.
+// The text for the start of a program, by its verdict.
 fn started_text(
     alloc: Global,
     slots: &IndexedSlots<'_>,
@@ -220,7 +221,7 @@ fn started_text(
     }
 }
 
-// What is answered on the start of the program of a path.
+// The answer to the start of the program of a path, by its verdict.
 fn exec_told(
     alloc: Global,
     slots: &IndexedSlots<'_>,
@@ -243,11 +244,11 @@ fn exec_told(
     })
 }
 
-/// What the start of the program of a path is answered, of who asks by this full name, or as the word `unconfined`.
+/// The answer to the start of the program of a path, for an asker by this full name, or by the word `unconfined`.
 ///
 /// # Errors
 ///
-/// `Absent` where no profile, child or hat of the full name is loaded, which is found without memory, and `Memory` where memory ran out.
+/// `Absent` where no profile, child or hat of the full name is loaded, which is found without allocating, and `Memory` where memory ran out.
 pub fn exec_answer(
     alloc: Global,
     slots: &IndexedSlots<'_>,
@@ -266,7 +267,7 @@ pub fn exec_answer(
     Ok(exec_told(alloc, slots, who, path, &verdict)?)
 }
 
-/// The lines of the reply by an answer, each with its line feed: what is told of it, and the line that logs it, where it is logged.
+/// The lines of the reply for an answer, each with its line feed: its text, followed by the audit line, where it is logged.
 ///
 /// # Errors
 ///
@@ -283,11 +284,11 @@ pub fn lines_of(alloc: Global, told: &Answered) -> Result<Vec<u8>, AllocError>
     Ok(lines)
 }
 
-/// The lines of the reply to `show NAME`: what the profile, child or hat of this full name consists of (docs/commands.md, "What is loaded").
+/// The lines of the reply to `show NAME`: what the profile, child or hat of this full name has (docs/commands.md, "What is loaded").
 ///
 /// # Errors
 ///
-/// `Absent` where no profile, child or hat of the full name is loaded, which is found without memory, and `Memory` where memory ran out.
+/// `Absent` where no profile, child or hat of the full name is loaded, which is found without allocating, and `Memory` where memory ran out.
 pub fn shown_lines(alloc: Global, slots: &IndexedSlots<'_>, name: &[u8]) -> Result<Vec<u8>, Refusal>
     ensures answered { IfOk result (λ lines. shown (filled slots.now) name.now ≡ Ok lines.items) }
     ensures refused { IfErr result (IsRefusalOf (shown (filled slots.now) name.now)) }

@@ -1,4 +1,4 @@
-//! Who asks: a task that is confined by a loaded profile, a child or a hat, or by nothing.
+//! Askers: tasks that are confined by a loaded profile, a child or a hat, or by nothing.
 
 ghost use Rattle.std.specs.Prelude.{◌≡◌, IfSome};
 ghost use Rattle.std.specs.Option.{option_map};
@@ -9,8 +9,8 @@ ghost use Rattle.aa_set_answers.specs.Askers.{asker, confinement};
 
 use aa_decide::{Asker, Confinement, IndexedSlots, find_loaded};
 
-/// Who asks by this full name, or as the word `unconfined`, which is no one in particular. None where there is no such
-/// profile, child or hat. It takes no memory.
+/// The asker of this full name; for the word `unconfined` it is `Some(None)`. `None` where there is no such profile, child or hat. It takes no
+/// memory.
 pub fn find_asker<'a>(slots: &IndexedSlots<'a>, who: &[u8]) -> Option<Option<Asker<'a>>>
     ensures asker { option_map (option_map seen_asker) result ≡ asker (filled slots.now) who.now }
     ensures there { IfSome result (λ asker. IfSome asker (IsIn slots.now)) }
@@ -21,7 +21,7 @@ pub fn find_asker<'a>(slots: &IndexedSlots<'a>, who: &[u8]) -> Option<Option<Ask
     Some(Some(find_loaded(slots, who)?))
 }
 
-/// What confines who asks.
+/// What confines an asker. It takes no memory.
 pub fn confinement<'a>(asker: Option<Asker<'a>>) -> Confinement<'a>
     ensures { found result ≡ confinement (option_map seen_asker asker.entry) }
 {

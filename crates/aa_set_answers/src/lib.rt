@@ -1,5 +1,4 @@
-//! What a policy set answers: to questions, as values and as the lines of the replies, to those who ask what a profile consists of, and to those who list
-//! all that is loaded.
+//! What a policy set answers: to questions, as values and as the lines of replies; to `show`, what a profile has; and to `list`, all that is loaded.
 #![tactic(auto)]
 
 mod answers;

@@ -38,7 +38,7 @@ fn count(slots: &[Option<Entry>]) -> u128
     count
 }
 
-// Puts the line of a profile, or of its child or hat at a place, behind a text.
+// Appends the line of a profile, or of its child or hat at an index, to a text.
 fn push_line(
     text: &mut Vec<u8>,
     alloc: Global,
@@ -52,7 +52,7 @@ fn push_line(
     Ok(())
 }
 
-// Puts the lines of these children and hats of a profile behind a text.
+// Appends the lines of these children and hats of a profile to a text.
 fn push_children(
     text: &mut Vec<u8>,
     alloc: Global,
@@ -67,7 +67,7 @@ fn push_children(
     Ok(())
 }
 
-// Puts the lines of a profile, and of its children and hats, behind a text.
+// Appends the lines of a profile, and of its children and hats, to a text.
 fn push_entry(text: &mut Vec<u8>, alloc: Global, entry: &Entry) -> Result<(), AllocError>
     ensures { OnOk result (text.new.items ≡ text.old.items ++ entry_lines entry.now) }
 {
@@ -75,7 +75,7 @@ fn push_entry(text: &mut Vec<u8>, alloc: Global, entry: &Entry) -> Result<(), Al
     push_children(text, alloc, entry, entry.profile().children.as_slice())
 }
 
-// Puts the lines of what a slot holds behind a text.
+// Appends the lines of what a slot holds to a text.
 fn push_slot(text: &mut Vec<u8>, alloc: Global, slot: &Option<Entry>) -> Result<(), AllocError>
     ensures { OnOk result (text.new.items ≡ text.old.items ++ flat_map entry_lines (filled (slot.now ∷ []))) }
 {
@@ -85,7 +85,7 @@ fn push_slot(text: &mut Vec<u8>, alloc: Global, slot: &Option<Entry>) -> Result<
     }
 }
 
-// Puts the lines of what slots hold behind a text.
+// Appends the lines of what slots hold to a text.
 fn push_slots(text: &mut Vec<u8>, alloc: Global, slots: &[Option<Entry>]) -> Result<(), AllocError>
     ensures { OnOk result (text.new.items ≡ text.old.items ++ flat_map entry_lines (filled slots.now)) }
 {
@@ -97,7 +97,7 @@ fn push_slots(text: &mut Vec<u8>, alloc: Global, slots: &[Option<Entry>]) -> Res
     Ok(())
 }
 
-// Puts the line of a number of profiles, children and hats behind a text.
+// Appends the line with the number of profiles, children and hats to a text.
 fn push_count(text: &mut Vec<u8>, count: u128) -> Result<(), AllocError>
     ensures { OnOk result (text.new.items ≡ text.old.items ++ codes "profiles " ++ decimal count ++ line_feed ∷ []) }
 {
@@ -108,9 +108,9 @@ fn push_count(text: &mut Vec<u8>, count: u128) -> Result<(), AllocError>
     Ok(())
 }
 
-/// The lines that list the loaded profiles in the slots that are filled, in their order (docs/commands.md, "What is loaded"): how many
-/// profiles, children and hats there are, and behind that a line of each with its full name and its state, children and hats behind their
-/// profile in the order of the file. Each line ends with a line feed.
+/// The lines that list the loaded profiles in the filled slots, in their order (docs/commands.md, "What is loaded"): how many profiles, children and
+/// hats there are, followed by a line for each with its full name and its state; children and hats come after their profile in the order of the
+/// file. Each line ends with a line feed.
 ///
 /// # Errors
 ///

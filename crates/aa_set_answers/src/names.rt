@@ -7,7 +7,7 @@ ghost use Rattle.aa_set_answers.specs.ProfileNames.{behind_profile, full_name_at
 use aa_profile_data::{Child, Profile};
 use std::alloc::{AllocError, Global};
 
-// Puts the name of a child or a hat behind that of its profile.
+// Appends `//` and the name of a child or a hat, if there is one, to its profile's name.
 fn push_child(text: &mut Vec<u8>, child: Option<&Child>) -> Result<(), AllocError>
     ensures { OnOk result (text.new.items ≡ text.old.items ++ behind_profile (option_copied child.entry)) }
 {
@@ -18,8 +18,8 @@ fn push_child(text: &mut Vec<u8>, child: Option<&Child>) -> Result<(), AllocErro
     Ok(())
 }
 
-/// The full name of a profile, or of its child or hat at a place: the profile's name, and behind it `//` and the child's or hat's own
-/// (docs/commands.md, "Full names"). Where no child or hat stands at the place, it is the profile's.
+/// The full name of a profile, or of its child or hat at an index: the profile's name, followed by `//` and the child's or hat's own
+/// (docs/commands.md, "Full names"). Where there is no child or hat at the index, it is the profile's.
 ///
 /// # Errors
 ///

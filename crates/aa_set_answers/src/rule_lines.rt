@@ -20,7 +20,7 @@ use std::alloc::AllocError;
 // The set of all capabilities.
 const ALL_CAPABILITIES: u64 = (1 << 41) - 1;
 
-// Puts a word behind a text, where something holds.
+// Appends a word to a text, if `holds`.
 pub fn push_if(text: &mut Vec<u8>, holds: bool, word: &str) -> Result<(), AllocError>
     ensures { OnOk result (text.new.items ≡ text.old.items ++ text_if holds word.now) }
 {
@@ -30,7 +30,7 @@ pub fn push_if(text: &mut Vec<u8>, holds: bool, word: &str) -> Result<(), AllocE
     Ok(())
 }
 
-// Puts the words before a rule behind a text.
+// Appends the qualifiers of a rule to a text.
 fn push_qualifiers(
     text: &mut Vec<u8>,
     audit: bool,
@@ -44,7 +44,7 @@ fn push_qualifiers(
     push_if(text, owner, " owner")
 }
 
-// Puts the target that a rule names behind a text, if it names one.
+// Appends the target that a rule names to a text, if it names one.
 fn push_target(text: &mut Vec<u8>, target: &Option<SharedBytes>) -> Result<(), AllocError>
     ensures { OnOk result (text.new.items ≡ text.old.items ++ target_text target.now) }
 {
@@ -69,7 +69,7 @@ pub fn push_exec_transition(text: &mut Vec<u8>, transition: &Transition) -> Resu
     push_target(text, &transition.target)
 }
 
-// Puts the exec word of a rule behind a text, if it has one, and its target.
+// Appends the exec word of a rule, if it has one, and its target to a text.
 fn push_exec(text: &mut Vec<u8>, exec: &Option<Transition>) -> Result<(), AllocError>
     ensures { OnOk result (text.new.items ≡ text.old.items ++ exec_text exec.now) }
 {
@@ -79,7 +79,7 @@ fn push_exec(text: &mut Vec<u8>, exec: &Option<Transition>) -> Result<(), AllocE
     }
 }
 
-// Puts the access of a rule on files behind a text.
+// Appends the access of a rule on files to a text.
 fn push_access(text: &mut Vec<u8>, rule: &FileRule) -> Result<(), AllocError>
     ensures { OnOk result (text.new.items ≡ text.old.items ++ access_text rule.now) }
 {
@@ -88,7 +88,7 @@ fn push_access(text: &mut Vec<u8>, rule: &FileRule) -> Result<(), AllocError>
     push_target(text, &rule.link)
 }
 
-// Puts a pattern between blanks behind a text.
+// Appends a pattern between blanks to a text.
 fn push_pattern(text: &mut Vec<u8>, pattern: &Pattern) -> Result<(), AllocError>
     ensures { OnOk result (text.new.items ≡ text.old.items ++ codes " " ++ written_text pattern.now ++ codes " ") }
 {
@@ -98,7 +98,7 @@ fn push_pattern(text: &mut Vec<u8>, pattern: &Pattern) -> Result<(), AllocError>
     Ok(())
 }
 
-// Puts the words before a rule on files behind a text.
+// Appends the qualifiers of a rule on files to a text.
 fn push_file_qualifiers(text: &mut Vec<u8>, rule: &FileRule) -> Result<(), AllocError>
     ensures { OnOk result (text.new.items ≡ text.old.items ++ file_qualifiers rule.now) }
 {
@@ -106,7 +106,7 @@ fn push_file_qualifiers(text: &mut Vec<u8>, rule: &FileRule) -> Result<(), Alloc
     push_if(text, rule.rank.is_same(Rank::Last), " last")
 }
 
-// Puts a rule on files behind a text.
+// Appends a rule on files to a text.
 fn push_file(text: &mut Vec<u8>, rule: &FileRule) -> Result<(), AllocError>
     ensures { OnOk result (text.new.items ≡ text.old.items ++ file_text rule.now) }
 {
@@ -123,7 +123,7 @@ fn has_all(set: u64) -> bool
     set & ALL_CAPABILITIES == ALL_CAPABILITIES
 }
 
-// Puts a name behind a text and a blank, where something holds.
+// Appends a blank and a name to a text, if `holds`.
 fn push_name_if(text: &mut Vec<u8>, holds: bool, name: &str) -> Result<(), AllocError>
     ensures { OnOk result (text.new.items ≡ text.old.items ++ text_if holds (codes " " ++ name.now)) }
 {
@@ -134,7 +134,7 @@ fn push_name_if(text: &mut Vec<u8>, holds: bool, name: &str) -> Result<(), Alloc
     Ok(())
 }
 
-// Puts those of these names behind a text whose capabilities a rule is about, each behind a blank.
+// Appends those of these names to a text whose capabilities a rule covers, each after a blank.
 fn push_names(text: &mut Vec<u8>, rule: &CapRule, names: &[&str]) -> Result<(), AllocError>
     requires { length names.now ≤ 255 }
     ensures { OnOk result (text.new.items ≡ text.old.items ++ names_from rule.now.caps 0 (map (λ name. name.now) names.now)) }
@@ -149,7 +149,7 @@ fn push_names(text: &mut Vec<u8>, rule: &CapRule, names: &[&str]) -> Result<(), 
     Ok(())
 }
 
-// Puts the capabilities that a rule is about behind a text, each behind a blank, or that these are all.
+// Appends the capabilities that a rule covers to a text, each after a blank, or `all`.
 fn push_capabilities(text: &mut Vec<u8>, rule: &CapRule) -> Result<(), AllocError>
     ensures { OnOk result (text.new.items ≡ text.old.items ++ capabilities_text rule.now.caps) }
 {
@@ -161,7 +161,7 @@ fn push_capabilities(text: &mut Vec<u8>, rule: &CapRule) -> Result<(), AllocErro
     }
 }
 
-// Puts a rule on capabilities behind a text.
+// Appends a rule on capabilities to a text.
 fn push_capability(text: &mut Vec<u8>, rule: &CapRule) -> Result<(), AllocError>
     ensures { OnOk result (text.new.items ≡ text.old.items ++ capability_text rule.now) }
 {
@@ -170,7 +170,7 @@ fn push_capability(text: &mut Vec<u8>, rule: &CapRule) -> Result<(), AllocError>
     push_capabilities(text, rule)
 }
 
-// The name in a table; a number without a row has none.
+// The name in a table; empty where the number has none.
 fn name_or_none(name: Option<&'static str>) -> &'static str
     ensures { result.now ≡ name_or_none (option_map (λ name. name.now) name.entry) }
 {
@@ -180,7 +180,7 @@ fn name_or_none(name: Option<&'static str>) -> &'static str
     }
 }
 
-// The domain that a rule is about.
+// The word for the domain that a rule covers.
 fn domain_word(domain: Option<u8>) -> &'static str
     ensures { result.now ≡ domain_word domain }
 {
@@ -190,7 +190,7 @@ fn domain_word(domain: Option<u8>) -> &'static str
     }
 }
 
-// The type or the protocol that a rule is about.
+// The word for the type or protocol that a rule covers.
 fn kind_word(kind: Option<u8>) -> &'static str
     ensures { result.now ≡ kind_word kind }
 {
@@ -200,7 +200,7 @@ fn kind_word(kind: Option<u8>) -> &'static str
     }
 }
 
-// Puts a rule on sockets behind a text.
+// Appends a rule on sockets to a text.
 fn push_network(text: &mut Vec<u8>, rule: &NetRule) -> Result<(), AllocError>
     ensures { OnOk result (text.new.items ≡ text.old.items ++ network_text rule.now) }
 {
@@ -212,7 +212,7 @@ fn push_network(text: &mut Vec<u8>, rule: &NetRule) -> Result<(), AllocError>
     text.extend_from_slice(kind_word(rule.kind).as_bytes())
 }
 
-// Puts a rule that decides nothing behind a text.
+// Appends a rule that decides nothing here to a text.
 fn push_other(text: &mut Vec<u8>, rule: &OtherRule) -> Result<(), AllocError>
     ensures { OnOk result (text.new.items ≡ text.old.items ++ other_text rule.now) }
 {
@@ -222,11 +222,11 @@ fn push_other(text: &mut Vec<u8>, rule: &OtherRule) -> Result<(), AllocError>
     text.extend_from_slice(rule.text.as_slice())
 }
 
-/// Puts a rule behind a text, as `show` tells it: what it is about, the words before it, and what it lets or denies.
+/// Appends a rule to a text, as `show` prints it: what kind it is, its qualifiers, and what it allows or denies.
 ///
 /// # Errors
 ///
-/// Where memory runs out. A beginning may have been put then.
+/// Where memory runs out. A beginning may have been appended then.
 pub fn push_rule(text: &mut Vec<u8>, rule: &Rule) -> Result<(), AllocError>
     ensures { OnOk result (text.new.items ≡ text.old.items ++ rule_text rule.now) }
 {
@@ -238,7 +238,7 @@ pub fn push_rule(text: &mut Vec<u8>, rule: &Rule) -> Result<(), AllocError>
     }
 }
 
-// Puts the line of a rule behind a text.
+// Appends the line of a rule to a text.
 pub fn push_rule_line(text: &mut Vec<u8>, rule: &Rule) -> Result<(), AllocError>
     ensures { OnOk result (text.new.items ≡ text.old.items ++ rule_line rule.now) }
 {

@@ -15,7 +15,7 @@ use aa_glob_pattern::Pattern;
 use aa_profile_data::{Child, Rule};
 use std::alloc::{AllocError, Global};
 
-// Puts the first line behind a text: the full name and the state, and whether the flag `audit` is set.
+// Appends the first line to a text: the full name and the state, and whether the flag `audit` is set.
 fn push_head(
     text: &mut Vec<u8>,
     alloc: Global,
@@ -32,11 +32,11 @@ fn push_head(
     Ok(())
 }
 
-/// Puts an attachment behind a text, as `show` tells it.
+/// Appends an attachment to a text, as `show` prints it.
 ///
 /// # Errors
 ///
-/// Where memory runs out. A beginning may have been put then.
+/// Where memory runs out. A beginning may have been appended then.
 pub fn push_attachment(text: &mut Vec<u8>, pattern: &Pattern) -> Result<(), AllocError>
     ensures { OnOk result (text.new.items ≡ text.old.items ++ attachment_text pattern.now) }
 {
@@ -44,7 +44,7 @@ pub fn push_attachment(text: &mut Vec<u8>, pattern: &Pattern) -> Result<(), Allo
     push_text(text, pattern.text())
 }
 
-// Puts the line of an attachment behind a text.
+// Appends the line of an attachment to a text.
 fn push_attachment_line(text: &mut Vec<u8>, pattern: &Pattern) -> Result<(), AllocError>
     ensures { OnOk result (text.new.items ≡ text.old.items ++ attachment_line pattern.now) }
 {
@@ -54,7 +54,7 @@ fn push_attachment_line(text: &mut Vec<u8>, pattern: &Pattern) -> Result<(), All
     Ok(())
 }
 
-// Puts the lines of attachments behind a text.
+// Appends the lines of attachments to a text.
 fn push_attachments(text: &mut Vec<u8>, patterns: &[Pattern]) -> Result<(), AllocError>
     ensures { OnOk result (text.new.items ≡ text.old.items ++ flat_map attachment_line patterns.now) }
 {
@@ -64,7 +64,7 @@ fn push_attachments(text: &mut Vec<u8>, patterns: &[Pattern]) -> Result<(), Allo
     Ok(())
 }
 
-// Puts the lines of rules behind a text.
+// Appends the lines of rules to a text.
 fn push_rules(text: &mut Vec<u8>, rules: &[Rule]) -> Result<(), AllocError>
     ensures { OnOk result (text.new.items ≡ text.old.items ++ flat_map rule_line rules.now) }
 {
@@ -74,7 +74,7 @@ fn push_rules(text: &mut Vec<u8>, rules: &[Rule]) -> Result<(), AllocError>
     Ok(())
 }
 
-// Puts the lines of attachments and of rules behind a text.
+// Appends the lines of attachments and of rules to a text.
 fn push_body(text: &mut Vec<u8>, attachments: &[Pattern], rules: &[Rule]) -> Result<(), AllocError>
     ensures { OnOk result (text.new.items ≡ text.old.items ++ body_lines attachments.now rules.now) }
 {
@@ -89,7 +89,7 @@ fn child_word(hat: bool) -> &'static str
     if hat { "  hat " } else { "  child " }
 }
 
-// Puts the line of the child or hat at a place of a profile behind a text.
+// Appends the line of the child or hat at an index of a profile to a text.
 fn push_child_line(
     text: &mut Vec<u8>,
     alloc: Global,
@@ -105,7 +105,7 @@ fn push_child_line(
     Ok(())
 }
 
-// Puts the lines of these children and hats of a profile behind a text.
+// Appends the lines of these children and hats of a profile to a text.
 fn push_child_lines(
     text: &mut Vec<u8>,
     alloc: Global,
@@ -120,7 +120,7 @@ fn push_child_lines(
     Ok(())
 }
 
-// Puts the lines of a profile behind a text.
+// Appends the lines of a profile to a text.
 fn push_profile(text: &mut Vec<u8>, alloc: Global, entry: &Entry) -> Result<(), AllocError>
     ensures { OnOk result (text.new.items ≡ text.old.items ++ show_lines entry.now None) }
 {
@@ -134,7 +134,7 @@ fn push_profile(text: &mut Vec<u8>, alloc: Global, entry: &Entry) -> Result<(), 
     push_child_lines(text, alloc, entry, profile.children.as_slice())
 }
 
-// Puts the lines of the child or hat at a place of a profile behind a text, if one stands there.
+// Appends the lines of the child or hat at an index of a profile to a text, if there is one.
 fn push_child(
     text: &mut Vec<u8>,
     alloc: Global,
@@ -151,9 +151,9 @@ fn push_child(
     push_body(text, child.attachments.as_slice(), child.rules.as_slice())
 }
 
-/// The lines that show a loaded profile, or its child or hat at a place (docs/commands.md, "What is loaded"): its full name and its state,
-/// its attachments and its rules in the order of the file, and of a profile also the full names and the states of its children and hats.
-/// Each line ends with a line feed. Where no child or hat stands at the place, there is no line.
+/// The lines that show a loaded profile, or its child or hat at an index (docs/commands.md, "What is loaded"): its full name and its state, its
+/// attachments and its rules in the order of the file, and for a profile also the full names and the states of its children and hats. Each line ends
+/// with a line feed. Where there is no child or hat at the index, there is no line.
 ///
 /// # Errors
 ///

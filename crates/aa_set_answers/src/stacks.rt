@@ -11,7 +11,7 @@ use aa_profile_data::first_member;
 use std::alloc::{AllocError, Global};
 use std::collections::BTreeSet;
 
-// Puts a name among others.
+// Adds a name to a set of names.
 fn put_name<'a>(names: &mut BTreeSet<&'a [u8]>, name: &'a [u8]) -> Result<(), AllocError>
     ensures { OnOk result (seen_names names.new ≡ put_name (seen_names names.old) name.now) }
 {
@@ -19,7 +19,7 @@ fn put_name<'a>(names: &mut BTreeSet<&'a [u8]>, name: &'a [u8]) -> Result<(), Al
     Ok(())
 }
 
-// Puts each of the names in a text, with `//&` between them, among others.
+// Adds each of the names in a text, with `//&` between them, to a set of names.
 fn put_members<'a>(names: &mut BTreeSet<&'a [u8]>, members: &'a [u8]) -> Result<(), AllocError>
     ensures { OnOk result (seen_names names.new ≡ fold put_name (seen_names names.old) (parts_of members.now)) }
 {
@@ -34,7 +34,7 @@ fn put_members<'a>(names: &mut BTreeSet<&'a [u8]>, members: &'a [u8]) -> Result<
     }
 }
 
-// Puts a name behind a text and another name.
+// Appends `//&` and a name to a text.
 fn push_behind(text: &mut Vec<u8>, name: &[u8]) -> Result<(), AllocError>
     ensures { OnOk result (text.new.items ≡ text.old.items ++ behind_another name.now) }
 {
@@ -43,7 +43,7 @@ fn push_behind(text: &mut Vec<u8>, name: &[u8]) -> Result<(), AllocError>
     Ok(())
 }
 
-// Puts names behind a text and another name.
+// Appends names to a text, each after `//&`.
 fn push_others(text: &mut Vec<u8>, names: &mut BTreeSet<&[u8]>) -> Result<(), AllocError>
     ensures { OnOk result (text.new.items ≡ text.old.items ++ flat_map behind_another (seen_names names.old)) }
 {
@@ -65,7 +65,7 @@ fn joined(alloc: Global, names: &mut BTreeSet<&[u8]>) -> Result<Vec<u8>, AllocEr
     Ok(text)
 }
 
-/// The name of a stack of these members, which are full names with `//&` between them, on what has this name, if it is on something: each name once, in
+/// The name of a stack of these members, which are full names with `//&` between them, on a base of this name, if it has one: each name once, in
 /// byte order, with `//&` between them (docs/policy.md, "Stacks"). A stack of one name has that name.
 ///
 /// # Errors

@@ -1,4 +1,4 @@
-//! The states of loaded profiles, as they are written.
+//! The states of loaded profiles, as they are printed.
 
 ghost use Rattle.std.specs.Prelude.{◌≡◌, ◌++◌, OnOk};
 ghost use Rattle.aa_set_answers.specs.States.{mode_word, state_word, written_state};
@@ -10,7 +10,7 @@ use aa_decide_ready::{Confinement, Entry};
 use aa_profile_data::Mode;
 use std::alloc::{AllocError, Global};
 
-/// The word of a mode.
+/// The word for a mode.
 pub fn mode_word(mode: Mode) -> &'static str
     ensures { result.now ≡ mode_word mode }
 {
@@ -21,7 +21,7 @@ pub fn mode_word(mode: Mode) -> &'static str
     }
 }
 
-// The word of a profile's state, or of that of its child or hat at a place.
+// The word for a profile's state, or for that of its child or hat at an index.
 fn state_word(entry: &Entry, child: Option<usize>) -> &'static str
     ensures { result.now ≡ state_word entry.now.state child }
 {
@@ -35,7 +35,7 @@ fn state_word(entry: &Entry, child: Option<usize>) -> &'static str
     }
 }
 
-// Puts the full name and the state of a profile, or of its child or hat at a place, behind a text.
+// Appends the full name and the state of a profile, or of its child or hat at an index, to a text.
 pub fn push_state(
     text: &mut Vec<u8>,
     alloc: Global,

@@ -23,8 +23,8 @@ pub data PolicyChange : Type 0 where
   Complain : (name : List ℕ) → PolicyChange
   Disable : (name : List ℕ) → PolicyChange
 
--- a command: a change, changes to undo or to redo, to mark the policy set by a name or to go back to the one marked, a question to
--- answer, or to tell what is loaded, or what one of it consists of
+-- a command: a change; changes to undo or to redo; to mark the policy set by a name, or to go back to the marked one; a question to answer; to list
+-- what is loaded; or to show one loaded profile, child or hat
 pub data Command : Type 0 where
   Make : (change : PolicyChange) → Command
   Undo : (count : ℕ) → Command
@@ -55,7 +55,7 @@ seen_command (command.Ask question) = Ask (seen_question question)
 seen_command command.List = Listed
 seen_command (command.Show name) = Show name.now
 
--- what a command asks is well-formed
+-- the question of a command is well-formed
 abbrev pub AsksWell : CodeCommand → Type 0
 AsksWell (command.Ask question) = IsWellFormed question
 AsksWell _ = Unit {0}
@@ -64,7 +64,7 @@ AsksWell _ = Unit {0}
 abbrev pub same : Refusal → Refusal
 same refusal = refusal
 
--- the most digits of a number, so few that it fits
+-- the most digits of a number, so few that it can't overflow
 abbrev pub most_digits : ℕ
 most_digits = 9
 
@@ -81,7 +81,7 @@ the_word _ = Err (plain BadCommand)
 abbrev pub is_count : List ℕ → Bool
 is_count word = nat_le 1 (length word) && nat_le (length word) most_digits && list_all is_digit word && nat_le 1 (number_of_digits word)
 
--- how many changes to go back or forward: one, where no word says
+-- how many changes to undo or to redo: one, where no word says
 abbrev pub count_of : List (List ℕ) → Result ℕ Refusal
 count_of [] = Ok 1
 count_of (word ∷ []) = if is_count word then Ok (number_of_digits word) else Err (plain BadCommand)
@@ -92,7 +92,7 @@ abbrev pub no_word : List (List ℕ) → Result Command Refusal
 no_word [] = Ok Listed
 no_word (word ∷ rest) = Err (plain BadCommand)
 
--- the change that a first word makes with the name behind it, if it is a word of a change
+-- the change that a first word makes with the name after it, if it is a word of a change
 abbrev pub change_of : List ℕ → List ℕ → Option PolicyChange
 change_of first name =
     if bytes_eq first (codes "add") then Some (Add name) else
@@ -124,7 +124,7 @@ command_of first rest =
     if bytes_eq first (codes "show") then result_map_both Show same (the_word rest) else
     change_command first rest
 
--- the command of a line's words, if they are any: a line of blanks alone commands nothing
+-- the command of a line's words, if there are any: a line of blanks alone commands nothing
 abbrev pub line_command : Option (List (List ℕ)) → Result (Option Command) Refusal
 line_command None = Err (plain BadCommand)
 line_command (Some []) = Ok None

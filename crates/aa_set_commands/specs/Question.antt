@@ -15,8 +15,8 @@ use Rattle.aa_set_commands.specs.declared.question.Question.TheVariants.{Cap, Ex
 use Rattle.aa_set_commands.specs.declared.refusal.Refusal.{Refusal}
 use Rattle.aa_set_commands.specs.declared.refusal.RefusalKind.TheVariants.{BadCommand, BadRequest}
 
--- What is asked: whether a task has access, confined as the asker's full name says, or the word `unconfined`; or under what a program runs that
--- such a task starts.
+-- The question: whether a task has access, confined as the asker's full name says, or by the word `unconfined` not at all; or under which profile a
+-- program runs that such a task starts.
 pub data Question : Type 0 where
   OfAccess : (who : List ℕ) (request : Request) → Question
   OfExec : (who : List ℕ) (owned : Bool) (path : List ℕ) → Question
@@ -28,7 +28,7 @@ seen_question (Exec who owned path) = OfExec who.now owned path.now
 seen_question (Cap who number) = OfAccess who.now (ForCapability number)
 seen_question (Net who domain kind) = OfAccess who.now (ForSockets domain kind)
 
--- a question's needs are made of the letters alone that may be asked for, and its numbers stand in the tables
+-- a question's needs consist of letters that may be asked for, and its numbers are in the tables
 abbrev pub IsWellFormed : CodeQuestion → Type 0
 IsWellFormed (File who needs owned path) = needs.0 < asked_letters
 IsWellFormed (Exec who owned path) = Unit {0}
@@ -56,7 +56,7 @@ abbrev pub capability_question : List ℕ → Option ℕ → Result Question Ref
 capability_question who (Some number) = Ok (OfAccess who (ForCapability number))
 capability_question who None = Err (plain BadRequest)
 
--- the number of the type of a name, which no protocol's is
+-- the number of the socket type of a name, which no protocol has
 abbrev pub type_number : List ℕ → Option ℕ
 type_number name = option_and_then (λ kind. if is_protocol kind then None else Some kind) (kind_number name)
 

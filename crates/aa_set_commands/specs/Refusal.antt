@@ -1,4 +1,4 @@
--- The refusals: each one's number and name, as replies tell them (docs/commands.md). Those of a file stand in the tables of the layers below.
+-- The refusals: each one's number and name, as replies print them (docs/commands.md). Those of a file are in the tables of the layers below.
 use Rattle.std.specs.Prelude.{◌≡◌, ◌≢◌, ℕ, List, codes, None, Result, Err}
 use Rattle.aa_profile_parsing.specs.ProfileError.{described as described_file}
 use Rattle.aa_profile_parsing.specs.declared.profile_error.ProfileError.{ProfileError}
@@ -32,7 +32,7 @@ name_of kind = (described kind).1
 abbrev pub plain : RefusalKind → Refusal
 plain kind = record { refusal = kind; place = None }
 
--- what a definition gives is this refusal, unless a call found no memory, which no definition foresees
+-- what a definition gives is this refusal, unless memory ran out in a call, which no definition foresees
 abbrev pub IsRefusalOf : {A : Type 0} → Result A Refusal → Refusal → Type 0
 IsRefusalOf outcome refusal = refusal ≢ plain Memory → outcome ≡ Err refusal
 
@@ -41,6 +41,6 @@ abbrev pub kind_of_profile : ProfileRefusal → RefusalKind
 kind_of_profile profile.Memory = Memory
 kind_of_profile refusal = File refusal
 
--- at the place that the file's refusal has
+-- the refusal of a command, at the place that the file's refusal has
 abbrev pub refusal_of_profile : ProfileError → Refusal
 refusal_of_profile error = record { refusal = kind_of_profile error.refusal; place = error.place }

@@ -1,4 +1,4 @@
--- What the law of words is said in.
+-- Definitions for the law on words.
 use Rattle.std.specs.Prelude.{ℕ, List, [], ◌∷◌, ◌++◌}
 use Rattle.aa_bytes.specs.Bytes.{quote, space}
 

@@ -1,3 +1,3 @@
--- What is about the code: the words that it cuts from a line.
+-- Definitions about the code: the words that it cuts from a line.
 pub mod FirstWord
 pub mod Texts

@@ -12,7 +12,7 @@ use crate::question::Question;
 use crate::refusal::{Refusal, RefusalKind, plain};
 use crate::words::Words;
 
-// The most digits of a number, so few that it fits.
+// The most digits of a number, which then fits.
 const MOST_DIGITS: usize = 9;
 
 /// A change of the policy set.
@@ -20,15 +20,15 @@ const MOST_DIGITS: usize = 9;
 pub enum PolicyChange<'a> {
     /// Adds the profiles of the file of this name.
     Add(&'a [u8]),
-    /// Puts the profiles of the file of this name in the places of those of their names.
+    /// Replaces profiles by those of the file of this name.
     Replace(&'a [u8]),
-    /// Takes out the profiles of the names that the file of this name has.
+    /// Removes the profiles that have the names of those of the file of this name.
     Remove(&'a [u8]),
     /// Sets the profile of this name to enforce mode.
     Enforce(&'a [u8]),
     /// Sets the profile of this name to complain mode.
     Complain(&'a [u8]),
-    /// Takes the profile of this name out of force.
+    /// Disables the profile of this name.
     Disable(&'a [u8]),
 }
 
@@ -37,9 +37,9 @@ pub enum PolicyChange<'a> {
 pub enum Command<'a> {
     /// Changes the policy set.
     Change(PolicyChange<'a>),
-    /// Takes back as many changes, at least one.
+    /// Undoes as many changes, at least one.
     Undo(usize),
-    /// Makes as many changes again that were taken back, at least one.
+    /// Redoes as many changes, at least one.
     Redo(usize),
     /// Marks the policy set now by this name.
     Mark(&'a [u8]),
@@ -47,18 +47,18 @@ pub enum Command<'a> {
     Back(&'a [u8]),
     /// Answers a question.
     Ask(Question<'a>),
-    /// Tells the names and states of what is loaded.
+    /// Lists the names and states of what is loaded.
     List,
-    /// Tells what the profile, child or hat of this full name consists of.
+    /// Shows what the profile, child or hat of this full name has.
     Show(&'a [u8]),
 }
 
-/// The command of a line, or none where the line has blanks alone. It takes no memory.
+/// The command of a line, or `None` where the line has only blanks. It takes no memory.
 ///
 /// # Errors
 ///
-/// - `BadCommand` where its quotes are bad, its first word is no command's, another number of words follows, or `undo` or `redo` is given
-///   no number from 1 to 999,999,999.
+/// - `BadCommand` where its quotes are bad, its first word is no command's, another number of words follows, or `undo` or `redo` is given something
+///   that is no number from 1 to 999,999,999.
 /// - Else as `Question::read` refuses a question.
 pub fn read(line: &[u8]) -> Result<Option<Command<'_>>, Refusal>
     ensures ok { IfOk result (λ found. line_command (words_of line.now) ≡ Ok (option_map seen_command found)) }
@@ -115,7 +115,7 @@ fn read_change<'a>(first: &[u8], rest: &[&'a [u8]]) -> Result<Command<'a>, Refus
     }
 }
 
-// The change that a first word makes with the name behind it, if it is a word of a change.
+// The change of a first word with the name after it, if it is the word of a change.
 fn change_of<'a>(first: &[u8], name: &'a [u8]) -> Option<PolicyChange<'a>>
     ensures { option_map seen_change result ≡ change_of first.now name.now }
 {
@@ -136,7 +136,7 @@ fn change_of<'a>(first: &[u8], name: &'a [u8]) -> Option<PolicyChange<'a>>
     }
 }
 
-// That no word follows a command that takes none.
+// Refuses words after a command that takes none.
 fn no_word(rest: &[&[u8]]) -> Result<(), Refusal>
     ensures ok { OnOk result (no_word (map (λ word. word.now) rest.now) ≡ Ok Listed) }
     ensures refused { IfErr result (λ refusal. no_word (map (λ word. word.now) rest.now) ≡ Err refusal) }
@@ -159,7 +159,7 @@ fn the_word<'a>(rest: &[&'a [u8]]) -> Result<&'a [u8], Refusal>
     }
 }
 
-// How many changes to go back or forward.
+// How many changes to undo or redo.
 fn read_count(rest: &[&[u8]]) -> Result<usize, Refusal>
     ensures ok { IfOk result (λ count. count_of (map (λ word. word.now) rest.now) ≡ Ok count) }
     ensures refused { IfErr result (λ refusal. count_of (map (λ word. word.now) rest.now) ≡ Err refusal) }
@@ -184,7 +184,7 @@ fn are_digits(word: &[u8]) -> bool
     word.iter().all(|byte| byte.is_ascii_digit())
 }
 
-// The number that digits stand for, few enough for it to fit.
+// The number of some digits, which are few enough for it to fit.
 fn number_of_digits(digits: &[u8]) -> usize
     requires few { length digits.now ≤ most_digits }
     requires digits { list_all is_digit digits.now ≡ true }

@@ -1,4 +1,4 @@
-//! What holds of the words of a line, as a law over their definition.
+//! Properties of the words of a line, as a law over their definition.
 
 ghost use Rattle.std.specs.Prelude.{◌≡◌, ℕ, List, Some, false};
 ghost use Rattle.std.specs.List.{All};

@@ -1,5 +1,5 @@
-//! Lines, and the commands and questions that are read from them: readers and writers, replies that wait to be written, the unfinished line, the words of a
-//! line, and why commands are refused.
+//! Lines, and the commands and questions that are read from them: readers and writers, replies that wait to be written, the unfinished line, the
+//! words of a line, and why commands are refused.
 #![tactic(auto)]
 
 mod command;

@@ -13,9 +13,9 @@ use std::marker::Model;
 /// How many bytes a command line may have, without its line feed.
 pub const LONGEST_LINE: usize = 65_536;
 
-/// The bytes of a line that isn't finished yet, up to one more than a line may have: those behind them change nothing.
+/// The bytes of a line that isn't finished yet, up to one more than a line may have: later ones change nothing.
 ///
-/// Its room is made once, so that no line of whatever length takes memory.
+/// Its capacity is allocated once, so that no line of whatever length takes memory.
 #[derive(Drop)]
 pub struct LineBuffer {
     bytes: Vec<u8>,
@@ -33,7 +33,11 @@ impl Model for LineBuffer {
 }
 
 impl LineBuffer {
-    /// An empty buffer, with all the room that it will have.
+    /// An empty buffer, with all the capacity that it will have.
+    ///
+    /// # Errors
+    ///
+    /// Where memory runs out.
     pub fn new(alloc: Global) -> Result<LineBuffer, AllocError>
         ensures { IfOk result (λ line. line ≡ []) }
     {
@@ -56,7 +60,7 @@ impl LineBuffer {
         self.bytes.as_slice()
     }
 
-    /// Keeps further bytes of the line, as far as there is room.
+    /// Appends further bytes of the line, as far as there is room.
     pub fn keep(&mut self, bytes: &[u8])
         ensures { self.new ≡ take (longest_line + 1) (self.old ++ bytes.now) }
     {
@@ -76,7 +80,7 @@ impl LineBuffer {
     }
 }
 
-/// What stands before the first line feed, and what stands behind it; nothing where no line ends. It takes no memory.
+/// What comes before the first line feed, and what follows it; `None` where no line ends. It takes no memory.
 pub fn first_line(bytes: &[u8]) -> Option<(&[u8], &[u8])>
     ensures line { IfSome result (λ found. list_any is_line_feed found.0.now ≡ false) }
     ensures whole { IfSome result (λ found. bytes.now ≡ (found.0.now ++ line_feed ∷ []) ++ found.1.now) }

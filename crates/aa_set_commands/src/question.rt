@@ -1,4 +1,4 @@
-//! Questions, as commands ask them.
+//! Questions that commands ask.
 
 ghost use Rattle.std.specs.Prelude.{◌≡◌, ◌==◌, ◌<◌, [], ◌∷◌, Ok, Err, IfOk, IfErr, IfSome, map, codes};
 ghost use Rattle.std.specs.Str.{bytes_eq};
@@ -28,7 +28,7 @@ pub enum Question<'a> {
         /// The file's path, that of a directory with a slash at its end.
         path: &'a [u8],
     },
-    /// Under what a program runs that a task starts.
+    /// Under which profile a program runs that a task starts.
     Exec {
         /// The full name of the profile, child or hat that confines the task, or the word `unconfined`.
         who: &'a [u8],
@@ -63,8 +63,8 @@ impl<'a> Question<'a> {
     /// # Errors
     ///
     /// - `BadCommand` for another kind of question or another number of words.
-    /// - Then `BadRequest` where a letter is unknown or stands twice or none does, where the owner's word is another, where the path doesn't
-    ///   begin with `/` or holds a zero byte, and where no capability, domain or type has the name.
+    /// - Then `BadRequest` where a letter is unknown or repeated or there is none, where the owner's word is another, where the path doesn't begin
+    ///   with `/` or holds a zero byte, and where no capability, domain or type has the name.
     pub fn read(words: &[&'a [u8]]) -> Result<Question<'a>, Refusal>
         ensures ok { IfOk result (λ question. question_of (map (λ word. word.now) words.now) ≡ Ok (seen_question question)) }
         ensures refused { IfErr result (λ refusal. question_of (map (λ word. word.now) words.now) ≡ Err refusal) }
@@ -142,7 +142,8 @@ fn capability_question<'a>(who: &'a [u8], name: &[u8]) -> Result<Question<'a>, R
     Ok(Question::Cap { who, number })
 }
 
-/// The number of the type of sockets of a name, which no protocol's is (apparmor.d(5), "Network Rules"). None of any other name. It takes no memory.
+/// The number of the type of sockets of a name, which is no protocol's (apparmor.d(5), "Network Rules"). `None` for any other name. It takes no
+/// memory.
 pub fn type_number(name: &[u8]) -> Option<u8>
     ensures number { result ≡ type_number name.now }
     ensures known { IfSome result (λ kind. kind < 6) }

@@ -1,4 +1,4 @@
-//! Why a command was refused.
+//! Why a command is refused.
 
 ghost use Rattle.std.specs.Prelude.{◌≡◌};
 ghost use Rattle.aa_set_commands.specs.Refusal.{name_of, number_of, plain, refusal_of_profile};
@@ -21,28 +21,28 @@ pub enum RefusalKind {
     Absent,
     /// A profile of the name is disabled.
     Disabled,
-    /// Fewer changes can be undone than were to be.
+    /// Fewer changes can be undone than were asked for.
     NothingToUndo,
-    /// Fewer changes can be made again than were to be.
+    /// Fewer changes can be redone than were asked for.
     NothingToRedo,
     /// The line is no command.
     BadCommand,
     /// The line is longer than 65,536 bytes.
     LineTooLong,
-    /// The access letters, the owner's word or the path of a question are no such thing, or a mark can't have its name.
+    /// The access letters, the owner's word or the path of a question aren't valid, or a mark can't have its name.
     BadRequest,
     /// No policy set is marked by the name.
     NoMark,
-    /// Memory ran out, with a file or without one: no `File` is a want of memory where it was made by `from`.
+    /// Memory ran out, with a file or without one: no `File` is that of memory where it was made by `from`.
     Memory,
 }
 
-/// Why a command or a question was refused. After a refusal the policy set and its history are as they were.
+/// Why a command or a question is refused. After a refusal the policy set and its history are unchanged.
 #[derive(Clone, Copy, Debug, PartialEq, Eq)]
 pub struct Refusal {
     /// What is wrong.
     pub refusal: RefusalKind,
-    /// Where it is, if it is in a file and has a place there.
+    /// The place of the fault, if it is in a file and has one there.
     pub place: Option<Place>,
 }
 
@@ -57,7 +57,7 @@ pub fn plain(refusal: RefusalKind) -> Refusal
 }
 
 impl RefusalKind {
-    /// The number that replies tell, 1 to 99.
+    /// The number in replies, 1 to 99.
     pub fn number(self) -> u8
         ensures { result ≡ number_of self }
     {
@@ -76,7 +76,7 @@ impl RefusalKind {
         }
     }
 
-    /// The name that replies tell, in ASCII letters.
+    /// The name in replies, in ASCII letters.
     pub fn name(self) -> &'static str
         ensures { result.now ≡ name_of self }
     {

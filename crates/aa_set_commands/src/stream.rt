@@ -1,4 +1,4 @@
-//! Where bytes come from and where they go: a reader and a writer that count and remember their faults.
+//! Streams of bytes: a reader and a writer that count calls and remember their faults.
 ghost use Rattle.std.specs.Prelude.{Option, ◌≡◌, ℕ, ◌+◌, ◌-◌, ◌^◌, ◌<◌, ◌||◌, List, Bool, true, false, length, IfOk, OnOk, OnErr};
 ghost use Rattle.std.specs.Io.{ReadsAtMost, WritesAtMost};
 ghost use Rattle.std.specs.Io.KnownBytes.{ReadConsumes, WriteAppends};
@@ -7,18 +7,18 @@ ghost use Rattle.aa_set_commands.specs.Streams.{comes_to_end};
 use std::io::{Read, Write};
 use thiserror::Error;
 
-/// A stream's fault: a read gave no bytes, or a write took none, though the stream was not at its end.
+/// A stream's fault: a read returned no bytes, or a write took none, though the stream was not at its end.
 ///
-/// It says no more, since what the caller does about it is always the same: it reads and writes no further.
+/// It says no more, since callers always do the same about it: they neither read nor write any further.
 #[derive(Clone, Copy, Debug, PartialEq, Eq, Error)]
 #[error("a stream failed")]
 pub struct Failed;
 
-/// Where bytes come from, piece by piece.
+/// A reader of bytes, piece by piece.
 ///
 /// A source counts the reads that were asked of it, and remembers whether one of them failed, and whether one came to the end.
 pub trait Source {
-    // The bytes that reads will give from here on, where they are known.
+    // The bytes that reads will return from here on, where they are known.
     ghost left: { Self → Option (List ℕ) };
 
     // How many reads there were.
@@ -27,19 +27,18 @@ pub trait Source {
     // Whether a read failed.
     ghost failed: { Self → Bool };
 
-    // Whether a read came to the end: it gave no bytes into a buffer that has room.
+    // Whether a read came to the end: it returned no bytes for a buffer that has room.
     ghost ended: { Self → Bool };
 
-    /// Reads a piece: puts the next bytes at the front of `buffer`, and says how many they are, at most the buffer's
-    /// length. What stands behind them in `buffer` means nothing. A count of 0 for a buffer that is not empty comes at
-    /// the end alone.
+    /// Reads a piece: writes the next bytes to the front of `buffer`, and returns how many they are, at most the buffer's length. What follows them
+    /// in `buffer` means nothing. A count of 0 for a buffer that is not empty comes only at the end.
     ///
     /// Each call, also one that fails, adds one to `reads()`, which may not have reached `u64::MAX` before.
     ///
     /// # Errors
     ///
-    /// `Failed` where the stream has a fault. No byte is then lost: those that were left are left still. `failed()` is
-    /// true from then on, and `ended()` is as it was.
+    /// `Failed` where the stream has a fault. No byte is then lost: those that were left are left still. `failed()` is true from then on, and
+    /// `ended()` is as it was.
     fn read(&mut self, buffer: &mut [u8]) -> Result<usize, Failed>
         requires countable { reads self.old < 2 ^ 64 - 1 }
         ensures within { ReadsAtMost result buffer.new }
@@ -50,7 +49,7 @@ pub trait Source {
         ensures ok { OnOk result (failed self.new ≡ failed self.old) }
         ensures err { OnErr result (failed self.new ≡ true) };
 
-    /// How many calls of `read` there were, those that failed among them.
+    /// How many calls of `read` there were, including those that failed.
     fn reads(&self) -> u64
         ensures { result ≡ reads self.now };
 
@@ -58,12 +57,12 @@ pub trait Source {
     fn failed(&self) -> bool
         ensures { result ≡ failed self.now };
 
-    /// Whether a call of `read` has come to the end.
+    /// Whether a call of `read` has reached the end.
     fn ended(&self) -> bool
         ensures { result ≡ ended self.now };
 }
 
-/// Where bytes go.
+/// A writer of bytes.
 ///
 /// A sink remembers whether a write to it failed.
 pub trait Sink {
@@ -73,8 +72,8 @@ pub trait Sink {
     // Whether a write failed.
     ghost failed: { Self → Bool };
 
-    /// Writes the first of `bytes`, and says how many it took: at most all of them, and at least one of a slice that is
-    /// not empty. The caller writes the others by a further call.
+    /// Writes the first of `bytes`, and returns how many it took: at most all of them, and at least one of a slice that is not empty. The caller
+    /// writes the rest by further calls.
     ///
     /// # Errors
     ///
@@ -91,7 +90,7 @@ pub trait Sink {
         ensures { result ≡ failed self.now };
 }
 
-/// Whether a read of so many bytes into a buffer of this length comes to the end: it gives none, although there is room.
+/// Whether a read of so many bytes into a buffer of this length reaches the end: it returns none, although there is room. It takes no memory.
 pub fn comes_to_end(count: usize, size: usize) -> bool
     ensures { result ≡ comes_to_end count size }
 {
@@ -100,7 +99,7 @@ pub fn comes_to_end(count: usize, size: usize) -> bool
 
 /// A reader of the standard library as a source.
 ///
-/// Each error of the reader is a fault, also one that only says that a signal came between: nothing is tried twice.
+/// Each error of the reader is a fault, also one that only says that a signal interrupted it: nothing is tried twice.
 #[derive(Drop)]
 pub struct FromRead<R> {
     reader: R,
@@ -171,8 +170,8 @@ impl<R: Read> Source for FromRead<R> {
 
 /// A writer of the standard library as a sink.
 ///
-/// Each error of the writer is a fault, also one that only says that a signal came between: nothing is tried twice. A
-/// write that takes none of the bytes it is given is a fault too.
+/// Each error of the writer is a fault, also one that only says that a signal interrupted it: nothing is tried twice. A write that takes none of the
+/// bytes it is given is a fault too.
 #[derive(Drop)]
 pub struct ToWrite<W> {
     writer: W,
@@ -180,7 +179,7 @@ pub struct ToWrite<W> {
 }
 
 impl<W: Write> ToWrite<W> {
-    /// A sink that writes behind what `writer` holds, with no fault so far.
+    /// A sink that appends to what `writer` holds, with no fault so far.
     pub fn new(writer: W) -> ToWrite<W>
         ensures written { ⟦<ToWrite<W> as Sink>⟧.written result ≡ W.contents writer }
         ensures failed { ⟦<ToWrite<W> as Sink>⟧.failed result ≡ false }

@@ -1,4 +1,4 @@
-//! Replies that wait to be written, in a buffer that is made once, so that writing one takes no memory.
+//! Replies that wait to be written, in a buffer that is allocated once, so that writing one takes no memory.
 ghost use Rattle.std.specs.Prelude.{◌≡◌, ◌+◌, ◌≤◌, true, [], ◌++◌, length, vec_len, vec_capacity, OnOk, OnErr};
 ghost use Rattle.std.specs.Io.KnownBytes.{Appends};
 ghost use Rattle.aa_set_commands.specs.Streams.{AppendsFront, WritesBehind};
@@ -9,7 +9,7 @@ use crate::stream::{Failed, Sink};
 ///
 /// # Errors
 ///
-/// `Failed` where the sink has a fault. Some front of the bytes is then written.
+/// `Failed` where the sink has a fault. A prefix of the bytes is then written.
 pub fn write_all<W: Sink>(writer: &mut W, bytes: &[u8]) -> Result<(), Failed>
     ensures ok { OnOk result (Appends (W.written writer.old) (W.written writer.new) bytes.now) }
     ensures flag { OnOk result (W.failed writer.new ≡ W.failed writer.old) }
@@ -24,12 +24,11 @@ pub fn write_all<W: Sink>(writer: &mut W, bytes: &[u8]) -> Result<(), Failed>
     Ok(())
 }
 
-/// Writes all that waits, and empties the buffer, which keeps its room.
+/// Writes all that waits, and empties the buffer, which keeps its capacity. It takes no memory.
 ///
 /// # Errors
 ///
-/// `Failed` where the sink has a fault. Some front of what waited is then written, and nothing waits, so that no byte is
-/// written twice.
+/// `Failed` where the sink has a fault. A prefix of what waited is then written, and nothing waits, so that no byte is written twice.
 pub fn flush<W: Sink>(writer: &mut W, waiting: &mut Vec<u8>) -> Result<(), Failed>
     ensures ok { OnOk result (Appends (W.written writer.old) (W.written writer.new) waiting.old.items) }
     ensures flag { OnOk result (W.failed writer.new ≡ W.failed writer.old) }
@@ -43,13 +42,13 @@ pub fn flush<W: Sink>(writer: &mut W, waiting: &mut Vec<u8>) -> Result<(), Faile
     result
 }
 
-/// Puts the bytes behind those that wait. Where the room that was made for those isn't enough, what waits is written
-/// first, and bytes that would never fit are written at once. The room is never made larger: this takes no memory.
+/// Appends the bytes to those that wait. Where the buffer's capacity isn't enough, what waits is written first, and bytes that would never fit are
+/// written at once. The buffer never grows: this takes no memory.
 ///
 /// # Errors
 ///
-/// `Failed` where the sink has a fault. Some front of what waited and the bytes behind it is then written, and nothing
-/// waits, so that no byte is written twice.
+/// `Failed` where the sink has a fault. A prefix of what waited and the bytes after it is then written, and nothing waits, so that no byte is
+/// written twice.
 pub fn write_behind<W: Sink>(
     writer: &mut W,
     waiting: &mut Vec<u8>,
@@ -75,7 +74,7 @@ pub fn write_behind<W: Sink>(
     Ok(())
 }
 
-// Puts the bytes behind those that wait, where there is room for them.
+// Appends the bytes to those that wait, where there is room for them.
 fn keep(waiting: &mut Vec<u8>, bytes: &[u8])
     requires room { vec_len waiting.old + length bytes.now ≤ vec_capacity waiting.old }
     ensures items { waiting.new.items ≡ waiting.old.items ++ bytes.now }

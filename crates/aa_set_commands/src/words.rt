@@ -12,15 +12,16 @@ ghost use Rattle.aa_set_commands.specs.Words.{words_of, words_in_quotes, is_word
 use aa_bytes::length_while;
 use thiserror::Error;
 
-// How many words a line may have: no command has as many.
+// How many words a line may have: the longest command has fewer.
 const MOST_WORDS: usize = 7;
 
-/// A line can't be cut into words: a quote isn't closed or is followed directly, or there are more words than any command has.
+/// A line can't be cut into words: a quote isn't closed, or something follows a closing quote directly, or there are more words than any command
+/// has.
 #[derive(Clone, Copy, Debug, PartialEq, Eq, Error)]
 #[error("the line can't be cut into words")]
 pub struct BadWords;
 
-/// The words of a line, none of them copied.
+/// The words of a line, which are borrowed from it.
 #[derive(Drop)]
 pub struct Words<'a> {
     words: [&'a [u8]; MOST_WORDS],
@@ -35,7 +36,7 @@ impl<'a> Words<'a> {
     ///
     /// # Errors
     ///
-    /// `BadWords` where a quote isn't closed or is followed directly, and where there are more words than any command has.
+    /// `BadWords` where a quote isn't closed, or something follows a closing quote directly, and where there are more words than any command has.
     pub fn cut(line: &'a [u8]) -> Result<Words<'a>, BadWords>
         ensures words { IfOk result (λ words. words_of line.now ≡ Some (texts words)) }
         ensures refused { OnErr result (IfSome (words_of line.now) (λ words. most_words < length words)) }
@@ -62,7 +63,7 @@ impl<'a> Words<'a> {
     }
 }
 
-// The next word of a line and what follows it, or nothing where blanks alone are left.
+// The next word of a line and what follows it, or `None` where only blanks are left.
 fn next_word(line: &[u8]) -> Result<Option<(&[u8], &[u8])>, BadWords>
     ensures word { IfOk result (IsFirstWord line.now) }
     ensures shorter { IfOk result (λ next. IfSome next (λ found. length found.1.now < length line.now)) }
@@ -78,7 +79,7 @@ fn next_word(line: &[u8]) -> Result<Option<(&[u8], &[u8])>, BadWords>
     Ok(Some(text.split_at(word_length(text))))
 }
 
-// A line from its first byte on that is no blank.
+// A line without its leading blanks.
 fn without_blanks(line: &[u8]) -> &[u8]
     ensures words { words_of result.now ≡ words_of line.now }
     ensures begins { 0 < length result.now → is_word_end result.now ≡ false }
@@ -94,7 +95,7 @@ fn without_blanks(line: &[u8]) -> &[u8]
     rest
 }
 
-// How many bytes stand before a text's first blank.
+// How many bytes a text has before its first blank.
 fn word_length(text: &[u8]) -> usize
     ensures value { result ≡ prefix_len (λ b. not (is_command_blank b)) text.now }
     ensures within { result ≤ length text.now }
@@ -118,7 +119,7 @@ fn quoted_word(text: &[u8]) -> Result<(&[u8], &[u8]), BadWords>
     Ok((word, after))
 }
 
-// How many bytes stand before a text's first quote.
+// How many bytes a text has before its first quote.
 fn quoted_length(text: &[u8]) -> usize
     ensures value { result ≡ prefix_len (λ b. not (is_quote b)) text.now }
     ensures within { result ≤ length text.now }
@@ -132,7 +133,7 @@ fn is_command_blank(byte: u8) -> bool
     byte == b' ' || byte == b'\t' || byte == b'\r'
 }
 
-// Whether a word that stands directly before this text ends there.
+// Whether a word directly before this text ends there.
 fn is_word_end(text: &[u8]) -> bool
     ensures { result ≡ is_word_end text.now }
 {

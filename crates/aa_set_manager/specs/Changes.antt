@@ -18,7 +18,7 @@ use Rattle.aa_set_commands.specs.Refusal.{plain, refusal_of_profile}
 use Rattle.aa_set_commands.specs.declared.refusal.Refusal.{Refusal}
 use Rattle.aa_set_commands.specs.declared.refusal.RefusalKind.TheVariants.{Absent, Disabled, Exists}
 
--- a mode: the one that all are set to, if there is one, and else that of the own flags
+-- a mode: the one that is set for all, if there is one, and else that of the own flags
 abbrev pub mode_of : Option Mode → Mode → Mode
 mode_of None own = own
 mode_of (Some mode) own = mode
@@ -39,11 +39,11 @@ forced force_complain = if force_complain then Some ComplainMode else None
 abbrev pub loaded : Bool → Profile → Loaded
 loaded force_complain profile = in_force (forced force_complain) profile
 
--- some of these profiles have a name that is there
+-- some of these profiles have a name that is loaded
 abbrev pub are_there : List Profile → List Loaded → Bool
 are_there profiles entries = list_any (λ profile. has_name profile.name entries) profiles
 
--- some of these profiles have a name that isn't there
+-- some of these profiles have a name that isn't loaded
 abbrev pub some_are_absent : List Profile → List Loaded → Bool
 some_are_absent profiles entries = list_any (λ profile. not (has_name profile.name entries)) profiles
 
@@ -55,30 +55,31 @@ is_disabled name entries = elim (entry_named name entries) [ None ↦ false | So
 abbrev pub some_are_disabled : List Profile → List Loaded → Bool
 some_are_disabled profiles entries = list_any (λ profile. is_disabled profile.name entries) profiles
 
--- an entry in the place of the one of its name, or behind all where there is none
+-- an entry in the place of the one of its name, or after all entries where there is none
 abbrev pub put : Loaded → List Loaded → List Loaded
 put entry [] = entry ∷ []
 put entry (other ∷ entries) = if is_named entry.profile.name other then entry ∷ entries else other ∷ put entry entries
 
--- profiles in force, one after another, each in the place of the entry of its name, or behind all where there is none
+-- profiles in force, one after another, each in the place of the entry of its name, or after all entries where there is none
 abbrev pub put_all : Option Mode → List Loaded → List Profile → List Loaded
 put_all set entries profiles = fold (λ entries profile. put (in_force set profile) entries) entries profiles
 
--- the entries of other names than these profiles'
+-- the entries whose names are none of these profiles'
 abbrev pub without : List Profile → List Loaded → List Loaded
 without profiles entries = filter (λ entry. not (list_any (is_profile_named entry.profile.name) profiles)) entries
 
--- `add`: the profiles of a file behind the entries, if none of their names is there
+-- `add`: the profiles of a file after the entries, if none of their names is loaded
 abbrev pub with_added : Bool → List Loaded → List Profile → Result (List Loaded) Refusal
 with_added force_complain entries profiles =
     if are_there profiles entries then Err (plain Exists) else Ok (entries ++ map (loaded force_complain) profiles)
 
--- `replace`: the profiles of a file, one after another, each in the place of the entry of its name or behind all, if none of these is disabled
+-- `replace`: the profiles of a file, one after another, each in the place of the entry of its name or after all, if none of these entries is
+-- disabled
 abbrev pub with_replaced : Bool → List Loaded → List Profile → Result (List Loaded) Refusal
 with_replaced force_complain entries profiles =
     if some_are_disabled profiles entries then Err (plain Disabled) else Ok (put_all (forced force_complain) entries profiles)
 
--- `remove`: the entries without those of the names of a file's profiles, if all are there
+-- `remove`: the entries without those of the names of a file's profiles, if all are loaded
 abbrev pub with_removed : List Loaded → List Profile → Result (List Loaded) Refusal
 with_removed entries profiles = if some_are_absent profiles entries then Err (plain Absent) else Ok (without profiles entries)
 
@@ -128,11 +129,11 @@ parts_of files settings (Enforce name) = 1
 parts_of files settings (Complain name) = 1
 parts_of files settings (Disable name) = 1
 
--- the entry of a name is there
+-- a name is loaded
 abbrev pub is_loaded : List ℕ → List Loaded → Bool
 is_loaded name entries = not (is_none (entry_named name entries))
 
--- A change may find no memory, but a switch that is refused doesn't take any.
+-- Memory may run out at a change, but a switch that is refused doesn't take any.
 abbrev pub change_takes_memory : List Loaded → PolicyChange → Bool
 change_takes_memory entries (Add file) = true
 change_takes_memory entries (Replace file) = true

@@ -1,4 +1,4 @@
--- The limits of what a policy set's history is told (docs/commands.md, "Limits").
+-- The limits of the names in a policy set's history (docs/commands.md, "Limits").
 use Rattle.std.specs.Prelude.{ℕ}
 
 -- how many bytes the name of a mark has at most

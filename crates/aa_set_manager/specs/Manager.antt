@@ -37,11 +37,11 @@ managed_by settings kept = record { settings = settings; machine = kept.machine;
 abbrev pub kept_of : Managed → Kept (List Loaded)
 kept_of managed = record { machine = managed.machine; sizes = managed.sizes }
 
--- a manager of the empty policy set, of files that are read by a language
+-- a manager of the empty policy set, whose files are read by a language
 abbrev pub new_manager_in : Language → Bool → Managed
 new_manager_in language force_complain = managed_by (record { language = language; force_complain = force_complain }) (begun [])
 
--- the same by the language of AppArmor 3
+-- a manager of the empty policy set, whose files are read by the language of AppArmor 3
 abbrev pub new_manager : Bool → Managed
 new_manager force_complain = new_manager_in Three force_complain
 
@@ -58,15 +58,15 @@ after_change managed size (Err refusal) = Err refusal
 abbrev pub made : List File → Managed → PolicyChange → Result Managed Refusal
 made files managed change = after_change managed (parts_of files managed.settings change) (changed files managed.settings managed.machine.now change)
 
--- some file spells these profiles, by some language
+-- some file has these profiles, by some language
 abbrev pub AreOfFile : List Profile → Type 0
 AreOfFile profiles = (language : Language) × (files : List File) × (name : List ℕ) × (file_profiles_in language files name ≡ Ok profiles)
 
--- the manager after profiles are added, or the refusal: `add FILE` adds those that the file spells
+-- the manager after profiles are added, or the refusal: `add FILE` adds those of the file
 abbrev pub added : Managed → List Profile → Result Managed Refusal
 added managed profiles = after_change managed (length profiles) (with_added managed.settings.force_complain managed.machine.now profiles)
 
--- the same where they are put in the places of those of their names, as `replace FILE` does it
+-- the manager after profiles replace those of their names, as `replace FILE` does it, or the refusal
 abbrev pub replaced : Managed → List Profile → Result Managed Refusal
 replaced managed profiles = after_change managed (length profiles) (with_replaced managed.settings.force_complain managed.machine.now profiles)
 

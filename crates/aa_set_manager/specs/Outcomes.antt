@@ -1,4 +1,4 @@
--- What a line is answered, and the manager after it, by the machine that keeps whole policy sets (docs/commands.md).
+-- The reply to a line, and the manager after it, by the machine that keeps whole policy sets (docs/commands.md).
 use Rattle.std.specs.Prelude.{ℕ, Bool, true, false, ◌&&◌, not, nat_le, if◌then◌else◌, List, length, Option, None, Some, Result, Ok, Err}
 use Rattle.aa_text_files.specs.Files.{File}
 use Rattle.aa_set_commands.specs.Limits.{longest_line}
@@ -30,7 +30,7 @@ abbrev pub answered : Managed → Result (List ℕ) Refusal → Outcome
 answered managed (Ok lines) = record { reply = Answered lines; managed = managed }
 answered managed (Err refusal) = refused managed refusal
 
--- what a command is answered where memory suffices
+-- the reply to a command where memory suffices
 abbrev pub obeyed : List File → Managed → Command → Outcome
 obeyed files managed (Make change) = changed managed (made files managed change)
 obeyed files managed (Undo n) = changed managed (undone n managed)
@@ -41,8 +41,8 @@ obeyed files managed (Ask question) = answered managed (reply_lines managed.mach
 obeyed files managed Listed = answered managed (Ok (list_lines managed.machine.now))
 obeyed files managed (Show name) = answered managed (shown managed.machine.now name)
 
--- A command may find no memory, but `undo`, `redo` and `back`, a switch that is refused, a name that no mark can have, a question of a profile, a
--- child or a hat that isn't there, and `show` of one.
+-- Memory may run out at a command, but not at `undo`, `redo` and `back`, a switch that is refused, a name that no mark can have, a question of a
+-- profile, a child or a hat that doesn't exist, and `show` of one.
 abbrev pub takes_memory : Managed → Command → Bool
 takes_memory managed (Make change) = change_takes_memory managed.machine.now change
 takes_memory managed (Undo n) = false
@@ -53,12 +53,12 @@ takes_memory managed (Ask question) = not (asks_absent managed.machine.now quest
 takes_memory managed Listed = true
 takes_memory managed (Show name) = not (shows_absent managed.machine.now name)
 
--- what a command is answered, with the flag that it found no memory; of other commands the flag says nothing
+-- the reply to a command, with the flag that memory ran out at it; for commands that take none the flag says nothing
 abbrev pub obeyed_flagged : List File → Managed → Bool → Command → Outcome
 obeyed_flagged files managed flag command =
     if flag && takes_memory managed command then refused managed (plain Memory) else obeyed files managed command
 
--- what the command of a line is answered: nothing where there is none
+-- the reply to the command of a line: nothing where there is none
 abbrev pub command_outcome : List File → Managed → Bool → Result (Option Command) Refusal → Outcome
 command_outcome files managed flag (Err refusal) = refused managed refusal
 command_outcome files managed flag (Ok None) = record { reply = Silent; managed = managed }
@@ -68,7 +68,7 @@ command_outcome files managed flag (Ok (Some command)) = obeyed_flagged files ma
 abbrev pub command_in : List ℕ → Result (Option Command) Refusal
 command_in line = line_command (words_of line)
 
--- what a line is answered
+-- the reply to a line
 abbrev pub line_outcome : List File → Managed → List ℕ → Bool → Outcome
 line_outcome files managed line flag =
     if nat_le (length line) longest_line

@@ -1,3 +1,3 @@
--- What is about the code: the slots that a change exchanges, and its parts.
+-- Definitions about the code: the slots that a change exchanges, and its parts.
 pub mod Making
 pub mod Places

@@ -1,4 +1,4 @@
-//! The changes that commands make of a policy set, each as the parts that it exchanges.
+//! The changes that commands make to a policy set, each as the parts that it exchanges.
 
 ghost use Rattle.std.specs.Prelude.{◌≡◌, Ok, Err, IfOk, IfErr, length, true, false};
 ghost use Rattle.std.specs.List.{list_all};
@@ -22,13 +22,13 @@ use aa_set_commands::{Refusal, RefusalKind, plain};
 use aa_set_parts::{Exchange, Slots};
 use std::alloc::Global;
 
-/// The change that adds the profiles of a file, whose names are their own and whose rules agree, at the end of a policy
-/// set: each in force in the modes of its own flags, or in complain mode where that is forced (docs/commands.md,
-/// "Changes"). It has a part for each profile. The slots stay as they are.
+/// The change that adds the profiles of a file, whose names are their own and whose rules agree, at the end of a policy set: each in force in the
+/// modes of its own flags, or in complain mode where that is forced (docs/commands.md, "Changes"). It has a part for each profile. The slots don't
+/// change.
 ///
 /// # Errors
 ///
-/// `Exists` where a profile of one of their names is there, which is found without memory, and `Memory` where memory ran out.
+/// `Exists` where a profile of one of their names is loaded, which is found without allocating, and `Memory` where memory ran out.
 pub fn adding(
     alloc: Global,
     slots: &Slots,
@@ -47,14 +47,13 @@ pub fn adding(
     Ok(loading(alloc, slots, forced(force_complain), profiles, &found)?)
 }
 
-/// The change that puts the profiles of a file, whose names are their own and whose rules agree, in the places of those
-/// of their names, or at the end, in the file's order, where there is none: each in force in the modes of its own
-/// flags, or in complain mode where that is forced (docs/commands.md, "Changes"). It has a part for each profile. The
-/// slots stay as they are.
+/// The change that replaces profiles by those of a file with their names, or adds them at the end, in the file's order, where there is none: each in
+/// force in the modes of its own flags, or in complain mode where that is forced (docs/commands.md, "Changes"). The names of the file's profiles
+/// differ, and their rules agree. It has a part for each profile. The slots don't change.
 ///
 /// # Errors
 ///
-/// `Disabled` where the profile of one of their names is disabled, which is found without memory, and `Memory` where memory ran out.
+/// `Disabled` where the profile of one of their names is disabled, which is found without allocating, and `Memory` where memory ran out.
 pub fn replacing(
     alloc: Global,
     slots: &Slots,
@@ -73,12 +72,12 @@ pub fn replacing(
     Ok(loading(alloc, slots, forced(force_complain), profiles, &found)?)
 }
 
-/// The change that takes out the profiles of these names, which are their own (docs/commands.md, "Changes"). It has a
-/// part for each. The slots, in which no two profiles have one name, stay as they are.
+/// The change that removes the profiles of these names, which differ (docs/commands.md, "Changes"). It has a part for each. The slots, in which no
+/// two profiles have one name, don't change.
 ///
 /// # Errors
 ///
-/// `Absent` where one of these names isn't there, which is found without memory, and `Memory` where memory ran out.
+/// `Absent` where one of these names isn't loaded, which is found without allocating, and `Memory` where memory ran out.
 pub fn removing(alloc: Global, slots: &Slots, profiles: &[Profile]) -> Result<Exchange, Refusal>
     requires own { are_distinct profiles.now ≡ true }
     requires apart { have_distinct_names (filled slots.now) ≡ true }
@@ -91,12 +90,12 @@ pub fn removing(alloc: Global, slots: &Slots, profiles: &[Profile]) -> Result<Ex
     Ok(unloading(alloc, slots, profiles, &found)?)
 }
 
-/// The change that brings the profile of a name into force, it and all its children and hats in one mode
-/// (docs/commands.md, "Changes"). It has one part. The slots stay as they are.
+/// The change that sets the profile of a name, with all its children and hats, to one mode, in force (docs/commands.md, "Changes"). It has one part.
+/// The slots don't change.
 ///
 /// # Errors
 ///
-/// `Absent` where no profile has the name, which is found without memory, and `Memory` where memory ran out.
+/// `Absent` where no profile has the name, which is found without allocating, and `Memory` where memory ran out.
 pub fn switching(alloc: Global, slots: &Slots, mode: Mode, name: &[u8]) -> Result<Exchange, Refusal>
     ensures ok { IfOk result (λ exchange. with_mode mode (filled slots.now) name.now ≡ Ok (filled (after slots.now exchange.parts))) }
     ensures parts { IfOk result (λ exchange. length exchange.parts ≡ 1) }
@@ -110,12 +109,12 @@ pub fn switching(alloc: Global, slots: &Slots, mode: Mode, name: &[u8]) -> Resul
     Ok(in_state(alloc, slot, State::Modes(Sequence::from_vec(modes)))?)
 }
 
-/// The change that takes the profile of a name out of force, and its children and hats (docs/commands.md, "Changes").
-/// It has one part. The slots stay as they are.
+/// The change that disables the profile of a name, with its children and hats (docs/commands.md, "Changes"). It has one part. The slots don't
+/// change.
 ///
 /// # Errors
 ///
-/// `Absent` where no profile has the name, and `Disabled` where it is out of force already, which are found without memory; and `Memory` where
+/// `Absent` where no profile has the name, and `Disabled` where it is disabled already, which are found without allocating; and `Memory` where
 /// memory ran out.
 pub fn disabling(alloc: Global, slots: &Slots, name: &[u8]) -> Result<Exchange, Refusal>
     ensures ok { IfOk result (λ exchange. with_disabled (filled slots.now) name.now ≡ Ok (filled (after slots.now exchange.parts))) }

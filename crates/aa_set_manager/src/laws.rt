@@ -1,4 +1,4 @@
-//! What every change of a policy set keeps, as a law over the definitions that the changes are proved to follow.
+//! What every change of a policy set preserves, as a law over the definitions that the changes are proved to follow.
 
 ghost use Rattle.aa_set_manager.specs.ChangeLaws.{ChangesKeepNamesApart};
 

@@ -1,4 +1,5 @@
-//! Policy sets, the changes that commands make of them, and the manager of one with its history: what it answers to a line.
+//! Policy sets, the changes that commands make to them, and the manager of a policy set with its history: its methods are the commands, and
+//! `reply_to` answers a line.
 #![tactic(auto)]
 
 mod changes;

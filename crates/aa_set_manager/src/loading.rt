@@ -1,4 +1,4 @@
-//! The parts that changes are made of.
+//! The parts of which changes are made.
 
 ghost use Rattle.std.specs.Prelude.{◌≡◌, ◌<◌, ◌≤◌, [], ◌∷◌, ◌++◌, length, true, false, IfOk, OnOk, Some, None, is_none};
 ghost use Rattle.std.specs.List.{list_all, list_any};
@@ -19,7 +19,7 @@ use aa_profile_data::{Mode, Profile};
 use aa_set_parts::{Content, Exchange, Part, Slots};
 use std::alloc::{AllocError, Global};
 
-// How a profile is loaded: all in the mode that is set, or each in that of its own flags.
+// A profile as it is loaded: in the mode that is set, or in that of its own flags, and so are its children and hats.
 fn loaded(alloc: Global, set: Option<Mode>, profile: Profile) -> Result<Entry, AllocError>
     requires { profile_agrees profile ≡ true }
     ensures { IfOk result (λ entry. entry ≡ in_force set profile) }
@@ -27,7 +27,7 @@ fn loaded(alloc: Global, set: Option<Mode>, profile: Profile) -> Result<Entry, A
     in_force(alloc, set, Ready::build(alloc, profile)?)
 }
 
-// Puts the part that loads a profile into a slot behind others.
+// Appends the part that loads a profile into a slot.
 fn push_filling(
     alloc: Global,
     parts: &mut Vec<Part>,
@@ -63,8 +63,8 @@ fn filling(
     Ok(parts)
 }
 
-/// The change that puts profiles into the slots where their names were found, and the others, in their order, behind
-/// all: each in the mode that is set, or else in those of its own flags.
+/// The change that loads profiles into the slots where their names were found, and the others, in their order, after all: each in the mode that is
+/// set, or else in those of its own flags.
 ///
 /// # Errors
 ///
@@ -88,7 +88,7 @@ pub fn loading(
     Ok(Exchange::of(parts, reach))
 }
 
-// Puts the part that empties a slot, if one was found, behind others.
+// Appends the part that empties a slot, if one was found.
 fn push_emptying(parts: &mut Vec<Part>, found: Option<usize>) -> Result<(), AllocError>
     ensures { OnOk result (parts.new.items ≡ parts.old.items ++ emptying (found ∷ [])) }
 {

@@ -37,11 +37,10 @@ use std::marker::Model;
 // How many bytes the name of a mark has at most.
 const LONGEST_MARK: usize = 255;
 
-/// A policy set, the policy sets that changes and undoing have left behind, and the marks of such sets.
+/// A policy set, the policy sets before and after it in its history, and the marks of such sets.
 ///
-/// Contracts see the machine that keeps whole policy sets: the set now, the earlier ones and the later ones, and the
-/// marks; and how many parts each change has. What is kept are the slots of the set now, and of each change the parts
-/// that it exchanges with them.
+/// Contracts see the machine that keeps whole policy sets: the set now, the earlier ones and the later ones, and the marks; and how many parts each
+/// change has. What is stored are the slots of the set now, and of each change the parts that it exchanges with them.
 pub struct Manager {
     alloc: Global,
     settings: Settings,
@@ -76,14 +75,15 @@ impl Manager {
     ghost use Rattle.aa_set_manager.specs.Manager.{AreOfFile, added, back_at, disabled, in_mode, made, marking};
     ghost use Rattle.aa_set_manager.specs.Manager.{new_manager, new_manager_in, redone, replaced, undone};
 
-    /// A manager of the empty policy set, which no change has made yet, of files that are read by the language of AppArmor 3: `new_in` with that.
+    /// A manager of the empty policy set, to which no change was made yet, with files read by the language of AppArmor 3: `new_in` with that. It
+    /// takes no memory.
     pub fn new(alloc: Global, force_complain: bool) -> Manager
         ensures { result ≡ new_manager force_complain }
     {
         Manager::new_in(alloc, Language::Three, force_complain)
     }
 
-    /// A manager of the empty policy set, which no change has made yet, of files that are read by a language. With `force_complain` (the option `-C`)
+    /// A manager of the empty policy set, to which no change was made yet, with files read by this language. With `force_complain` (the option `-C`)
     /// each profile is loaded in complain mode, and so are its children and hats, whatever their flags. It takes no memory.
     pub fn new_in(alloc: Global, language: Language, force_complain: bool) -> Manager
         ensures { result ≡ new_manager_in language force_complain }
@@ -126,29 +126,27 @@ impl Manager {
         self.journal.marks()
     }
 
-    /// How many parts all changes have together, of those that can be undone and of those that can be redone: one for a
-    /// switch, and for `add`, `replace` and `remove` the number of the file's profiles. It takes no memory.
+    /// How many parts all changes have together, those that can be undone and those that can be redone: one for a change of mode, and for `add`,
+    /// `replace` and `remove` the number of the file's profiles. It takes no memory.
     pub fn kept(&self) -> u128
         ensures { result ≡ sum self.now.sizes }
     {
         self.journal.kept()
     }
 
-    /// Adds the profiles of a file, each in force in the modes of its own flags, or with `force_complain` in complain
-    /// mode, at the end of the policy set, in the file's order: all of them or none. At `Ok` that is one change, and
-    /// the sets that `undo` had left can't be gone forward to any more.
+    /// Reads a file, and adds its profiles at the end of the policy set, in the file's order: all of them or none. Each is in force in the modes of
+    /// its own flags, or with `force_complain` in complain mode. With `Ok` that is one change, and what was undone can't be redone any more.
     ///
     /// # Errors
     ///
     /// Those of reading the file come first, each phase over the whole file before the next (docs/policy.md):
     /// - `NoFile`, without a place, where no file has the name; else the first fault of the file's text or of its includes' (`ZeroByte`,
     ///   `OpenQuote`, `OpenOther`, `NoFile`, `IncludeDepth`, `TextTooBig`), at its byte, its token or its include;
-    /// - the first fault of its grammar, from the left: `BadToken` at the first token at which the grammar can't go on, and without a place
-    ///   where the tokens run out outside of a block; `OpenBlock` at the innermost brace that is open where they run out in one; `BadFlag`,
+    /// - the first fault of its grammar, from the left: `BadToken` at the first token that the grammar doesn't take at its place, and without a
+    ///   place where the tokens run out outside of a block; `OpenBlock` at the innermost brace that is open where they run out in one; `BadFlag`,
     ///   `BadAccess`, `TwoExec`, `ExecQualifier` and `WriteAppend` at the token that holds the flag or the access; `TargetWithoutExec` at `->`;
-    ///   `BadCapability` and `BadNetwork` at the word; `TwiceNamed` and `BadName` at the name; `NestedChild`
-    ///   at the word or name that begins a child within a child; `LateAssignment` at an assignment behind a profile; `NoProfile`, without a
-    ///   place, where the file has none;
+    ///   `BadCapability` and `BadNetwork` at the word; `TwiceNamed` and `BadName` at the name; `NestedChild` at the word or name that begins a child
+    ///   within a child; `LateAssignment` at an assignment after a profile; `NoProfile`, without a place, where the file has none;
     /// - `Redefined` and `AppendUndefined` at the assignment, then `Undefined` at the token that names the variable, then `Cycle` at the
     ///   variable's first assignment;
     /// - `TooManyRules` at the pattern with which the file has more than 16,384, each expansion counted;
@@ -156,7 +154,7 @@ impl Manager {
     /// - `ExecConflict` at the first pattern that makes a rule which conflicts with one before it in its profile, child or hat.
     ///
     /// Then `Exists`, without a place, where a profile of one of their names is loaded. `Memory`, without a place, may come anywhere: memory ran
-    /// out. After each of these the policy set and its history are as they were.
+    /// out. After each of these the policy set and its history are unchanged.
     pub fn add(&mut self, files: &Files, name: &[u8]) -> Result<(), Refusal>
         ensures ok { OnOk result (made files.now self.old (Add name.now) ≡ Ok self.new) }
         ensures refused { IfErr result (IsRefusalOf (made files.now self.old (Add name.now))) }
@@ -166,14 +164,13 @@ impl Manager {
         self.add_read(read.profiles)
     }
 
-    /// Adds profiles that were read of a file, as `add` of that file does. It is for callers that need the rest of what
-    /// `aa_profile::read_file_in` gives, which reads the file once for both. The caller sees to it that they are those
-    /// of one file.
+    /// Adds profiles that were read from a file, as `add` of that file does. It is for callers that need the rest of what `aa_profile::read_file_in`
+    /// returns, so that the file is read once for both. The caller makes sure that they are those of one file.
     ///
     /// # Errors
     ///
     /// `Exists`, without a place, where a profile of one of their names is loaded, and `Memory` where memory ran out. After each the policy set and
-    /// its history are as they were.
+    /// its history are unchanged.
     pub fn add_read(&mut self, profiles: Vec<Profile>) -> Result<(), Refusal>
         requires { AreOfFile profiles.items }
         ensures ok { OnOk result (added self.old profiles.items ≡ Ok self.new) }
@@ -188,15 +185,14 @@ impl Manager {
         make(&mut self.journal, exchange)
     }
 
-    /// Puts each profile of a file in the place of the one of its name, or where there is none at the end of the policy
-    /// set, in the file's order: all of them or none. Each comes in force in the modes of its own flags, or with
-    /// `force_complain` in complain mode, whatever the mode of the one before. At `Ok` that is one change, and the sets
-    /// that `undo` had left can't be gone forward to any more.
+    /// Reads a file, and replaces each profile by the one of the file that has its name; where there is none, the file's profile is added at the end
+    /// of the policy set, in the file's order: all of them or none. Each is in force in the modes of its own flags, or with `force_complain` in
+    /// complain mode, whatever the mode of the one before. With `Ok` that is one change, and what was undone can't be redone any more.
     ///
     /// # Errors
     ///
-    /// Those of reading the file come first, as `add` tells them. Then `Disabled`, without a place, where the profile of one of their names is
-    /// disabled. `Memory`, without a place, may come anywhere: memory ran out. After each of these the policy set and its history are as they were.
+    /// Those of reading the file come first, as for `add`. Then `Disabled`, without a place, where the profile of one of their names is disabled.
+    /// `Memory`, without a place, may come anywhere: memory ran out. After each of these the policy set and its history are unchanged.
     pub fn replace(&mut self, files: &Files, name: &[u8]) -> Result<(), Refusal>
         ensures ok { OnOk result (made files.now self.old (Replace name.now) ≡ Ok self.new) }
         ensures refused { IfErr result (IsRefusalOf (made files.now self.old (Replace name.now))) }
@@ -206,14 +202,13 @@ impl Manager {
         self.replace_read(read.profiles)
     }
 
-    /// Puts profiles that were read of a file in the places of those of their names, as `replace` of that file does. It
-    /// is for callers that need the rest of what `aa_profile::read_file_in` gives, which reads the file once for both.
-    /// The caller sees to it that they are those of one file.
+    /// Replaces profiles by those that were read from a file, as `replace` of that file does. It is for callers that need the rest of what
+    /// `aa_profile::read_file_in` returns, so that the file is read once for both. The caller makes sure that they are those of one file.
     ///
     /// # Errors
     ///
-    /// `Disabled`, without a place, where the profile of one of their names is disabled, and `Memory` where memory ran out. After each the policy set
-    /// and its history are as they were.
+    /// `Disabled`, without a place, where the profile of one of their names is disabled, and `Memory` where memory ran out. After each the policy
+    /// set and its history are unchanged.
     pub fn replace_read(&mut self, profiles: Vec<Profile>) -> Result<(), Refusal>
         requires { AreOfFile profiles.items }
         ensures ok { OnOk result (replaced self.old profiles.items ≡ Ok self.new) }
@@ -228,13 +223,13 @@ impl Manager {
         make(&mut self.journal, exchange)
     }
 
-    /// Reads a file, and takes out the profiles of the names that its profiles have, in force or disabled: all of them or none. At `Ok` that is one
-    /// change, and the sets that `undo` had left can't be gone forward to any more.
+    /// Reads a file, and removes the profiles that have the names of the file's profiles, in force or disabled: all of them or none. With `Ok` that
+    /// is one change, and what was undone can't be redone any more.
     ///
     /// # Errors
     ///
-    /// Those of reading the file come first, as `add` tells them. Then `Absent`, without a place, where no profile of one of their names is
-    /// loaded. `Memory`, without a place, may come anywhere: memory ran out. After each of these the policy set and its history are as they were.
+    /// Those of reading the file come first, as for `add`. Then `Absent`, without a place, where no profile of one of their names is loaded.
+    /// `Memory`, without a place, may come anywhere: memory ran out. After each of these the policy set and its history are unchanged.
     pub fn remove(&mut self, files: &Files, name: &[u8]) -> Result<(), Refusal>
         ensures ok { OnOk result (made files.now self.old (Remove name.now) ≡ Ok self.new) }
         ensures refused { IfErr result (IsRefusalOf (made files.now self.old (Remove name.now))) }
@@ -246,13 +241,13 @@ impl Manager {
         make(&mut self.journal, exchange)
     }
 
-    /// Sets the profile of a name to enforce mode, and all its children and hats; a disabled one comes into force. At `Ok` that is one change, also
-    /// where it leaves the policy set equal, and the sets that `undo` had left can't be gone forward to any more.
+    /// Sets the profile of a name to enforce mode, with all its children and hats; a disabled one comes into force. With `Ok` that is one change,
+    /// also where the policy set stays equal, and what was undone can't be redone any more.
     ///
     /// # Errors
     ///
-    /// `Absent` where no profile has the name, which is found without memory, and `Memory` where memory ran out. After each the policy set and its
-    /// history are as they were.
+    /// `Absent` where no profile has the name, which is found without allocating, and `Memory` where memory ran out. After each the policy set and
+    /// its history are unchanged.
     pub fn enforce(&mut self, name: &[u8]) -> Result<(), Refusal>
         ensures ok { OnOk result (in_mode Enforce self.old name.now ≡ Ok self.new) }
         ensures refused { IfErr result (IsRefusalOf (in_mode Enforce self.old name.now)) }
@@ -264,12 +259,12 @@ impl Manager {
         make(&mut self.journal, exchange)
     }
 
-    /// Sets the profile of a name to complain mode, and all its children and hats; a disabled one comes into force. At `Ok` that is one change, also
-    /// where it leaves the policy set equal, and the sets that `undo` had left can't be gone forward to any more.
+    /// Sets the profile of a name to complain mode, with all its children and hats; a disabled one comes into force. With `Ok` that is one change,
+    /// also where the policy set stays equal, and what was undone can't be redone any more.
     ///
     /// # Errors
     ///
-    /// As `enforce`.
+    /// As for `enforce`.
     pub fn complain(&mut self, name: &[u8]) -> Result<(), Refusal>
         ensures ok { OnOk result (in_mode Complain self.old name.now ≡ Ok self.new) }
         ensures refused { IfErr result (IsRefusalOf (in_mode Complain self.old name.now)) }
@@ -281,14 +276,13 @@ impl Manager {
         make(&mut self.journal, exchange)
     }
 
-    /// Takes the profile of a name out of force, and its children and hats: it confines nothing, no program is started
-    /// under it, and it keeps its place. At `Ok` that is one change, and the sets that `undo` had left can't be gone
-    /// forward to any more.
+    /// Disables the profile of a name, with its children and hats: it confines nothing, no program is started under it, and it keeps its place. With
+    /// `Ok` that is one change, and what was undone can't be redone any more.
     ///
     /// # Errors
     ///
-    /// `Absent` where no profile has the name, and `Disabled` where it is out of force already, which are found without memory; and `Memory` where
-    /// memory ran out. After each the policy set and its history are as they were.
+    /// `Absent` where no profile has the name, and `Disabled` where it is disabled already, which are found without allocating; and `Memory` where
+    /// memory ran out. After each the policy set and its history are unchanged.
     pub fn disable(&mut self, name: &[u8]) -> Result<(), Refusal>
         ensures ok { OnOk result (disabled self.old name.now ≡ Ok self.new) }
         ensures refused { IfErr result (IsRefusalOf (disabled self.old name.now)) }
@@ -301,8 +295,7 @@ impl Manager {
         make(&mut self.journal, exchange)
     }
 
-    /// Goes `n` changes back: the policy set is the one from before the last `n` changes, in each entry and its place. It
-    /// takes no memory.
+    /// Undoes the last `n` changes: the policy set is the one from before them, with each entry in its place. It takes no memory.
     ///
     /// # Errors
     ///
@@ -320,12 +313,11 @@ impl Manager {
         }
     }
 
-    /// Goes `n` changes on again, of those that `undo` went back: the policy set is the one from after them, in each entry and its place. It takes no
-    /// memory.
+    /// Redoes the last `n` changes that were undone: the policy set is the one from after them, with each entry in its place. It takes no memory.
     ///
     /// # Errors
     ///
-    /// `NothingToRedo` where fewer than `n` changes can be made again. Nothing is redone then.
+    /// `NothingToRedo` where fewer than `n` changes can be redone. Nothing is redone then.
     pub fn redo(&mut self, n: usize) -> Result<(), Refusal>
         ensures ok { OnOk result (redone n self.old ≡ Ok self.new) }
         ensures refused { IfErr result (λ refusal. redone n self.old ≡ Err refusal) }
@@ -339,14 +331,14 @@ impl Manager {
         }
     }
 
-    /// Marks the policy set now by a name of 1 to 255 bytes, in place of the one that the name has marked so far. That
-    /// is no change: it can't be undone, and drops nothing that could be redone. A mark stands until a change is
-    /// accepted with fewer changes made than there were at the mark, so that the marked set can't be gone to any more.
+    /// Marks the policy set now by a name of 1 to 255 bytes; the name then no longer marks another. This is no change: it can't be undone, and drops
+    /// nothing that could be redone. A mark lasts until a change is accepted with fewer changes made than there were at the mark, after which the
+    /// marked set can't be reached any more.
     ///
     /// # Errors
     ///
-    /// `BadRequest` where the name is empty or longer, which is found without memory, and `Memory` where memory ran
-    /// out. After each the policy set, its history and the marks are as they were.
+    /// `BadRequest` where the name is empty or longer, which is found without allocating, and `Memory` where memory ran out. After each the policy
+    /// set, its history and the marks are unchanged.
     pub fn mark(&mut self, name: &[u8]) -> Result<(), Refusal>
         ensures ok { OnOk result (marking name.now self.old ≡ Ok self.new) }
         ensures refused { IfErr result (IsRefusalOf (marking name.now self.old)) }
@@ -364,12 +356,12 @@ impl Manager {
         }
     }
 
-    /// Goes to the policy set that is marked by a name, as many changes back or on as lie between, or none: in each entry and its place. No change is
+    /// Goes to the policy set that is marked by a name, by undoing or redoing the changes between, with each entry in its place. No change is
     /// dropped, neither of those that could be undone nor of those that could be redone, and no mark. It takes no memory.
     ///
     /// # Errors
     ///
-    /// `NoMark` where no policy set is marked by the name. The policy set, its history and the marks are as they were then.
+    /// `NoMark` where no policy set is marked by the name. The policy set, its history and the marks are then unchanged.
     pub fn back(&mut self, name: &[u8]) -> Result<(), Refusal>
         ensures ok { OnOk result (back_at name.now self.old ≡ Ok self.new) }
         ensures refused { IfErr result (λ refusal. back_at name.now self.old ≡ Err refusal) }
@@ -383,10 +375,10 @@ impl Manager {
         }
     }
 
-    /// Remembers what a question about a path passes of the rules of who asks, so that it is answered quicker from now
-    /// on, and others as far as they go the same ways. Nothing of it is seen in any answer. It does so for at most
-    /// eight profiles, children and hats: where a ninth asks, what was remembered of the others is forgotten before,
-    /// and all of it is with each change but a switch. Where memory runs out no more is remembered.
+    /// Remembers the states that the asker's rules reach along a question's path, so that the question is answered quicker from now on, and so are
+    /// others as far as they reach the same states together; and makes indices of names and attachments. No answer changes. Runs are remembered for
+    /// at most eight profiles, children and hats: where a ninth asks, what was remembered for the others is forgotten before, and all of it is with
+    /// each change but those of modes. Where memory runs out no more is remembered.
     pub fn remember(&mut self, question: &Question<'_>)
         ensures { self.new ≡ self.old }
     {
@@ -403,23 +395,22 @@ impl Manager {
         }
     }
 
-    /// Sees to it that profiles are found by their names without going over all, if it is called for more than the
-    /// first few times since profiles were added, replaced or removed. Nothing of it is seen in any answer. `remember`
-    /// does it for a question.
+    /// Makes an index of the profiles' names, if it is called for more than the first few times since profiles were added, replaced or removed. No
+    /// answer changes. `remember` does it for a question.
     pub fn index_names(&mut self)
         ensures { self.new ≡ self.old }
     {
         self.index(false);
     }
 
-    // The same, and for attachments if they are looked for.
+    // Makes an index of the profiles' names, and one of their attachments if these are looked up.
     fn index(&mut self, attachments: bool)
         ensures { self.new ≡ self.old }
     {
         self.journal.tend(&Indexing { attachments });
     }
 
-    // Remembers what a path passes of the rules of who asks by a full name.
+    // Remembers the states that the rules of an asker, by full name, reach along a path.
     fn remember_path(&mut self, who: &[u8], path: &[u8])
         ensures { self.new ≡ self.old }
     {
@@ -450,11 +441,11 @@ impl Manager {
         Ok(list_lines(self.alloc, self.policy_set().slots().as_slice())?)
     }
 
-    /// The lines of the reply to `show NAME`: what the profile, child or hat of this full name consists of (docs/commands.md, "What is loaded").
+    /// The lines of the reply to `show NAME`: what the profile, child or hat of this full name has (docs/commands.md, "What is loaded").
     ///
     /// # Errors
     ///
-    /// `Absent` where no profile, child or hat of the full name is loaded, which is found without memory, and `Memory` where memory ran out.
+    /// `Absent` where no profile, child or hat of the full name is loaded, which is found without allocating, and `Memory` where memory ran out.
     pub fn show(&self, name: &[u8]) -> Result<Vec<u8>, Refusal>
         ensures answered { IfOk result (λ lines. shown self.now.machine.now name.now ≡ Ok lines.items) }
         ensures refused { IfErr result (IsRefusalOf (shown self.now.machine.now name.now)) }
@@ -463,9 +454,8 @@ impl Manager {
         shown_lines(self.alloc, &self.policy_set().slots(), name)
     }
 
-    /// What a question is answered, as values: the answer, what is told of it, and the line that logs it, where it is
-    /// logged (docs/commands.md, "Questions"). The caller sees to it that the question is well-formed, as one of
-    /// `Question::read` is: it needs known letters alone, and its numbers stand in the tables.
+    /// Answers a question, as values: the answer, its text, and the audit line, where it is logged (docs/commands.md, "Questions"). The caller makes
+    /// sure that the question is well-formed, as one of `Question::read` is: it needs known letters alone, and its numbers are in the tables.
     ///
     /// # Errors
     ///
@@ -474,7 +464,7 @@ impl Manager {
         requires { IsWellFormed question.now }
         ensures answered { IfOk result (λ told. answered self.now.machine.now (seen_question question.entry.now) ≡ Ok told) }
         ensures refused { IfErr result (IsRefusalOf (answered self.now.machine.now (seen_question question.entry.now))) }
-        // That it is absent is found without memory.
+        // That the asker is absent is found without allocating.
         ensures memory { IfErr result (λ refusal.
             refusal ≡ plain Memory → asks_absent self.now.machine.now (seen_question question.entry.now) ≡ false) }
     {
@@ -509,12 +499,12 @@ impl Manager {
         }
     }
 
-    /// The same, and remembers what the question passes (`remember`), so that it is answered quicker the next time. Nothing of the policy set or its
-    /// history changes.
+    /// Answers a question as `answered` does, and remembers what it reached (`remember`), so that it is answered quicker the next time. The policy
+    /// set and its history don't change.
     ///
     /// # Errors
     ///
-    /// As `answered`.
+    /// As for `answered`.
     pub fn answer(&mut self, question: &Question<'_>) -> Result<Answered, Refusal>
         requires { IsWellFormed question.now }
         ensures answered { IfOk result (λ told. answered self.old.machine.now (seen_question question.entry.now) ≡ Ok told) }
@@ -527,17 +517,17 @@ impl Manager {
         self.answered(question)
     }
 
-    /// The lines of the reply to a question, each with its line feed: the word of the answer, and behind it the line that logs it, where it is
-    /// logged. The question is as in `answered`.
+    /// The lines of the reply to a question, each with its line feed: the text of the answer, followed by the audit line, where it is logged. The
+    /// question is as for `answered`.
     ///
     /// # Errors
     ///
-    /// As `answered`.
+    /// As for `answered`.
     pub fn ask(&self, question: &Question<'_>) -> Result<Vec<u8>, Refusal>
         requires { IsWellFormed question.now }
         ensures answered { IfOk result (λ lines. reply_lines self.now.machine.now (seen_question question.entry.now) ≡ Ok lines.items) }
         ensures refused { IfErr result (IsRefusalOf (reply_lines self.now.machine.now (seen_question question.entry.now))) }
-        // That it is absent is found without memory.
+        // That the asker is absent is found without allocating.
         ensures memory { IfErr result (λ refusal.
             refusal ≡ plain Memory → asks_absent self.now.machine.now (seen_question question.entry.now) ≡ false) }
     {
@@ -546,14 +536,14 @@ impl Manager {
     }
 }
 
-// Whether a mark can have a name.
+// Whether a mark may have a name.
 fn is_mark_name(name: &[u8]) -> bool
     ensures { result ≡ is_mark_name name.now }
 {
     !name.is_empty() && name.len() <= LONGEST_MARK
 }
 
-// Makes a change to the slots of a journal and keeps the way back, if the change wasn't refused.
+// Makes a change to the slots of a journal and records how to undo it, if the change wasn't refused.
 fn make(
     journal: &mut Journal<Slots, Exchange>,
     exchange: Result<Exchange, Refusal>,

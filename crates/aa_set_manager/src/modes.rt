@@ -1,4 +1,4 @@
-//! The modes that profiles come into force in.
+//! The modes in which profiles come into force.
 
 ghost use Rattle.std.specs.Prelude.{◌≡◌, IfOk};
 ghost use Rattle.aa_set_manager.specs.Changes.{forced, in_force, mode_of, modes_of};
@@ -8,7 +8,7 @@ use aa_decide_ready::{Entry, Ready, State};
 use aa_profile_data::{Mode, Profile};
 use std::alloc::{AllocError, Global};
 
-/// The mode that profiles are set to as they are loaded, where one is forced.
+/// The mode to which profiles are set when they are loaded, if one is forced.
 pub fn forced(force_complain: bool) -> Option<Mode>
     ensures { result ≡ forced force_complain }
 {
@@ -19,7 +19,7 @@ pub fn forced(force_complain: bool) -> Option<Mode>
     }
 }
 
-// The mode that is set, if one is, and else that of the own flags.
+// The mode that is set, if one is, and else that of the profile's own flags.
 fn mode_of(set: Option<Mode>, own: Mode) -> Mode
     ensures { result ≡ mode_of set own }
 {
@@ -50,7 +50,7 @@ pub fn modes_of(
     Ok(modes)
 }
 
-/// A profile in force, it and its children and hats in the mode that is set, or else each in that of its own flags.
+/// A profile in force, with its children and hats: in the mode that is set, or else each in that of its own flags.
 ///
 /// # Errors
 ///

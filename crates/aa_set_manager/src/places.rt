@@ -1,4 +1,4 @@
-//! Where the profiles that a change names are found.
+//! The slots of the profiles that a change names.
 
 ghost use Rattle.std.specs.Prelude.{◌≡◌, ◌≢◌, ◌+◌, ◌≤◌, false, true, length, List, IfErr, IfOk, IfSome, OnOk, is_none};
 ghost use Rattle.std.specs.List.{list_any};
@@ -18,14 +18,14 @@ use aa_profile_data::Profile;
 use aa_set_commands::{Refusal, RefusalKind, plain};
 use std::alloc::{AllocError, Global};
 
-// Whether a profile of this name is there.
+// Whether a profile of this name is loaded.
 fn has_name(slots: &IndexedSlots<'_>, name: &[u8]) -> bool
     ensures { result ≡ has_name name.now (filled slots.now) }
 {
     slots.slot_named(name).is_some()
 }
 
-// Whether one of these profiles has a name that is there.
+// Whether one of these profiles has the name of a loaded one.
 fn are_there(slots: &IndexedSlots<'_>, profiles: &[Profile]) -> bool
     ensures { result ≡ are_there profiles.now (filled slots.now) }
 {
@@ -34,7 +34,7 @@ fn are_there(slots: &IndexedSlots<'_>, profiles: &[Profile]) -> bool
         .any(|profile| has_name(slots, profile.name.as_slice()))
 }
 
-// Whether one of these profiles has a name that isn't there.
+// Whether one of these profiles has a name that isn't loaded.
 fn some_are_absent(slots: &IndexedSlots<'_>, profiles: &[Profile]) -> bool
     ensures { result ≡ some_are_absent profiles.now (filled slots.now) }
 {
@@ -53,7 +53,7 @@ fn is_disabled(slots: &IndexedSlots<'_>, name: &[u8]) -> bool
     }
 }
 
-// Whether the profile of the name of one of these is disabled.
+// Whether the loaded profile of the name of one of these is disabled.
 fn some_are_disabled(slots: &IndexedSlots<'_>, profiles: &[Profile]) -> bool
     ensures { result ≡ some_are_disabled profiles.now (filled slots.now) }
 {
@@ -99,15 +99,15 @@ fn some_are_disabled_at(slots: &IndexedSlots<'_>, found: &[Option<usize>]) -> bo
 /// A change by the profiles of a file.
 #[derive(Clone, Copy)]
 pub enum FileChange {
-    /// They are added: none of their names is there.
+    /// They are added: none of their names may be loaded.
     Add,
-    /// They are put in the places of those of their names: none of these is disabled.
+    /// They replace the profiles of their names: none of these may be disabled.
     Replace,
-    /// Those of their names are taken out: all of them are there.
+    /// The profiles of their names are removed: all of them must be loaded.
     Remove,
 }
 
-// As what a change is refused.
+// The refusal of such a change.
 fn refused_as(change: FileChange) -> Refusal
     ensures refusal { result ≡ refused_as change }
     ensures known { result ≢ plain Memory }
@@ -132,7 +132,7 @@ fn is_refused_at(change: FileChange, slots: &IndexedSlots<'_>, found: &[Option<u
     }
 }
 
-// The same without memory, by their names.
+// Whether a change is refused, by the names of its profiles, without allocating.
 fn is_refused(change: FileChange, slots: &IndexedSlots<'_>, profiles: &[Profile]) -> bool
     ensures { result ≡ is_refused change profiles.now (filled slots.now) }
 {
@@ -143,12 +143,11 @@ fn is_refused(change: FileChange, slots: &IndexedSlots<'_>, profiles: &[Profile]
     }
 }
 
-/// The slots in which the names of the profiles of a change are found, of those that are there.
+/// The slots in which the names of the profiles of a change are found, as far as they are loaded.
 ///
 /// # Errors
 ///
-/// `Exists`, `Disabled` or `Absent` where the change is refused, which is found without memory, and `Memory` where memory
-/// ran out.
+/// `Exists`, `Disabled` or `Absent` where the change is refused, which is found without allocating, and `Memory` where memory ran out.
 pub fn found_for(
     alloc: Global,
     change: FileChange,
@@ -177,7 +176,7 @@ pub fn found_for(
     }
 }
 
-// The slot that a profile comes to: the one where its name was found, or else the next new one.
+// The slot into which a profile is loaded: the one where its name was found, or else the next new one.
 fn place(next: &mut usize, found: Option<usize>) -> usize
     requires { next.old + 1 ≤ 18446744073709551615 }
     ensures slot { result ≡ place_for next.old found }
@@ -193,8 +192,8 @@ fn place(next: &mut usize, found: Option<usize>) -> usize
     }
 }
 
-/// The slots that profiles come to: each to the one where its name was found, and the others to new ones from `next` on, which becomes the number
-/// behind these.
+/// The slots into which profiles are loaded: each into the one where its name was found, and the others into new ones from `next` on, which becomes
+/// the number after these.
 ///
 /// # Errors
 ///

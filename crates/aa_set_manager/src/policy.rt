@@ -8,8 +8,8 @@ use aa_decide_ready::IndexedSlots;
 use aa_set_parts::Slots;
 use std::marker::Model;
 
-/// A policy set: loaded profiles in the order in which they were loaded, no two of one name. It borrows the slots that
-/// they stand in. Contracts see the list of its entries.
+/// A policy set: loaded profiles in the order in which they were loaded, no two of one name. It borrows the slots that hold them. Contracts see the
+/// list of its entries.
 #[derive(Drop)]
 pub struct PolicySet<'a> {
     slots: &'a Slots,
@@ -29,7 +29,7 @@ impl<'a> Model for PolicySet<'a> {
 }
 
 impl<'a> PolicySet<'a> {
-    /// The policy set that stands in these slots. It takes no memory.
+    /// The policy set in these slots. It takes no memory.
     pub fn of(slots: &'a Slots) -> PolicySet<'a>
         requires { have_distinct_names (filled slots.now) ≡ true }
         ensures { result ≡ filled slots.now }
@@ -37,7 +37,8 @@ impl<'a> PolicySet<'a> {
         PolicySet { slots }
     }
 
-    /// The slots: the entries, in the order in which they were loaded, stand in those that are filled. No two have one name. It takes no memory.
+    /// The slots of the policy set: the filled ones hold its entries, in the order in which they were loaded. No two have one name. It takes no
+    /// memory.
     pub fn slots(&self) -> IndexedSlots<'a>
         ensures entries { filled result ≡ self.now }
         ensures distinct { have_distinct_names (filled result) ≡ true }

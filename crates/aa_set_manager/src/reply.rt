@@ -1,4 +1,4 @@
-//! Replies: what a line is answered.
+//! Replies to lines.
 
 ghost use Rattle.std.specs.Prelude.{◌≡◌, Bool, MatchResult};
 ghost use Rattle.aa_set_commands.specs.Command.{AsksWell, Make, seen_change, seen_command};
@@ -10,12 +10,12 @@ use aa_bytes::Sequence;
 use aa_set_commands::{Command, LONGEST_LINE, PolicyChange, Refusal, RefusalKind, plain, read};
 use aa_text_files::Files;
 
-/// What a line is answered.
+/// The reply to a line.
 #[derive(Debug, Drop)]
 pub enum Reply {
     /// Nothing: the line is blank.
     Silent,
-    /// A change was made, undone or redone, or the policy set was marked or gone back to.
+    /// A change was made, undone or redone, or the policy set was marked or a mark was gone to.
     Done,
     /// The line was refused.
     Refused(Refusal),
@@ -23,7 +23,7 @@ pub enum Reply {
     Answered(Sequence<u8>),
 }
 
-/// The reply to a line. The manager goes on as the line says, or stays as it was where it is refused or asks.
+/// Executes a line, and returns the reply. The manager changes as the line says, or not at all where it is refused or asks.
 pub fn reply_to(files: &Files, manager: &mut Manager, line: &[u8]) -> Reply
     ensures { (flag : Bool) × (record { reply = result; managed = manager.new } ≡ line_outcome files.now manager.old line.now flag) }
 {
@@ -37,7 +37,7 @@ pub fn reply_to(files: &Files, manager: &mut Manager, line: &[u8]) -> Reply
     }
 }
 
-// The reply to a command.
+// Executes a command, and returns the reply.
 fn obey(files: &Files, manager: &mut Manager, command: Command<'_>) -> Reply
     requires { AsksWell command }
     ensures { (flag : Bool)
@@ -59,7 +59,7 @@ fn obey(files: &Files, manager: &mut Manager, command: Command<'_>) -> Reply
     }
 }
 
-// The reply to a change.
+// Makes a change, and returns the reply.
 fn make(files: &Files, manager: &mut Manager, change: PolicyChange<'_>) -> Reply
     ensures { (flag : Bool)
         × (record { reply = result; managed = manager.new }

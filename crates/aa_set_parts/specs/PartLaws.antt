@@ -1,4 +1,4 @@
--- What holds of the exchange of parts.
+-- Laws on the exchange of parts.
 use Rattle.std.proofs.Common.{◌≡◌, ℕ, Bool, true, false, List, [], ◌∷◌, ◌++◌, length, Option, None, Some, refl, sym, ap, ◌∙◌, arith}
 use Rattle.std.proofs.lemmas.List.{length_push}
 use Rattle.aa_decide_ready.specs.Entries.{Loaded, fits, state_left, with_state}
@@ -24,13 +24,13 @@ state-again state entry = by (fits entry.profile entry.state) (fits entry.profil
     by true false h k = (rw (h, k) rw (h, k) refl, rw (h, k) rw (h, k) refl)
     by false other h k = (rw (h) rw (h) refl, rw (h) rw (h) refl)
 
--- a second exchange gives a slot what it held
+-- a second exchange gives a slot back what it held
 put-again : (content : Content) (held : Option Loaded) → put_in (taken_out content held) (put_in content held) ≡ held
 put-again (Whole content) held = refl
 put-again (InState state) None = refl
 put-again (InState state) (Some entry) = ap (λ (entry : Loaded). Some entry) (state-again state entry).0
 
--- and the part what it held
+-- a second exchange gives a part back what it held
 taken-again : (content : Content) (held : Option Loaded) → taken_out (taken_out content held) (put_in content held) ≡ content
 taken-again (Whole content) held = refl
 taken-again (InState state) None = refl
@@ -84,7 +84,7 @@ back-push : (slots : List (Option Loaded)) (parts : List Part) (part : Part)
 back-push slots [] part = ap (λ (one : Part). one ∷ []) (sym (left-trimmed part slots))
 back-push slots (first ∷ parts) part = ap (λ rest. rest ++ left first slots ∷ []) (back-push (exchanged first slots) parts part)
 
--- turning twice gives back what the slots stand for
+-- turning twice gives back what the slots represent
 pub parts-return : (slots : List (Option Loaded)) (parts : List Part) → after (after slots parts) (back slots parts) ≡ trimmed slots
 parts-return slots [] = trimmed-again slots
 parts-return slots (part ∷ parts) =

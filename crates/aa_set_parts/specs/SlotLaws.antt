@@ -1,4 +1,4 @@
--- What holds of slots of which one is filled or emptied.
+-- Laws on slots of which one is filled or emptied.
 use Rattle.std.proofs.Common.{◌≡◌, ℕ, zero, suc, List, [], ◌∷◌, Option, None, Some, refl, ap, ◌∙◌}
 use Rattle.aa_decide_ready.specs.Entries.{Loaded}
 use Rattle.aa_decide_ready.specs.Slots.{filled}
@@ -9,7 +9,7 @@ trimmed-onto (Some entry) slots = refl
 trimmed-onto None [] = refl
 trimmed-onto None (slot ∷ slots) = refl
 
--- what slots stand for stands for itself
+-- what slots represent represents itself
 pub trimmed-again : (slots : List (Option Loaded)) → trimmed (trimmed slots) ≡ trimmed slots
 trimmed-again [] = refl
 trimmed-again (slot ∷ slots) = trimmed-onto slot (trimmed slots) ∙ ap (onto slot) (trimmed-again slots)
@@ -43,7 +43,7 @@ first-with-onto content (Some entry) slots = refl
 first-with-onto content None [] = refl
 first-with-onto content None (slot ∷ slots) = refl
 
--- what a slot held is put back, whatever it held in between
+-- filling a slot with what it held gives back the slots, whatever it held in between
 pub with-again : (k : ℕ) (content : Option Loaded) (slots : List (Option Loaded))
     → with_content k (content_at k slots) (with_content k content slots) ≡ trimmed slots
 with-again zero content [] = first-with-onto None content []
@@ -52,7 +52,7 @@ with-again (suc k) content [] = with-onto k None None (with_content k content []
 with-again (suc k) content (old ∷ slots) =
     with-onto k (content_at k slots) old (with_content k content slots) ∙ ap (onto old) (with-again k content slots)
 
--- slots of which one holds something else stand for themselves
+-- slots of which one holds something else represent themselves
 pub with-settled : (k : ℕ) (content : Option Loaded) (slots : List (Option Loaded))
     → trimmed (with_content k content slots) ≡ with_content k content slots
 with-settled zero content [] = trimmed-onto content []
@@ -67,7 +67,7 @@ with-trimmed k content [] = refl
 with-trimmed zero content (old ∷ slots) = first-with-onto content old (trimmed slots) ∙ ap (onto content) (trimmed-again slots)
 with-trimmed (suc k) content (old ∷ slots) = with-onto k content old (trimmed slots) ∙ ap (onto old) (with-trimmed k content slots)
 
--- nor in what a slot holds
+-- empty slots at the end play no part in what a slot holds
 pub content-trimmed : (k : ℕ) (slots : List (Option Loaded)) → content_at k (trimmed slots) ≡ content_at k slots
 content-trimmed k [] = refl
 content-trimmed zero (old ∷ slots) = first-onto old (trimmed slots)
@@ -79,7 +79,7 @@ filled-onto (Some entry) slots = refl
 filled-onto None [] = refl
 filled-onto None (slot ∷ slots) = refl
 
--- the entries of slots are those of what they stand for
+-- the entries of slots are those of what they represent
 pub filled-trimmed : (slots : List (Option Loaded)) → filled (trimmed slots) ≡ filled slots
 filled-trimmed [] = refl
 filled-trimmed (Some entry ∷ slots) = ap (λ entries. entry ∷ entries) (filled-trimmed slots)

@@ -9,8 +9,8 @@ use aa_history::Change;
 use std::alloc::AllocError;
 use std::marker::Model;
 
-/// A change that exchanges parts with their slots, one behind the other, and becomes the one that leads back. Entries are moved, and none is copied.
-/// Contracts see the parts, and a number of slots that all of their slots are among.
+/// A change that exchanges parts with their slots, one after the other, and becomes the change that undoes it. Entries are moved, and none is
+/// copied. Contracts see the parts, and a number that is greater than each of their slots.
 pub struct Exchange {
     parts: Vec<Part>,
     reach: usize,
@@ -37,7 +37,7 @@ impl Model for Exchange {
 }
 
 impl Exchange {
-    /// The change that exchanges these parts, whose slots are among the first `reach`. It takes no memory.
+    /// The change that exchanges these parts, whose slots are less than `reach`. It takes no memory.
     pub fn of(parts: Vec<Part>, reach: usize) -> Exchange
         requires { All (λ part. part.slot < reach) parts.items }
         ensures { result ≡ record { parts = parts.items; reach = reach } }

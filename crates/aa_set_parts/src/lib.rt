@@ -1,4 +1,5 @@
-//! Slots, and changes that exchange parts with them.
+//! Slots, each of which is empty or holds a loaded profile, and the changes that a history keeps of them: parts that are exchanged with slots.
+//! Entries are moved and never copied.
 #![tactic(auto)]
 
 mod exchange;

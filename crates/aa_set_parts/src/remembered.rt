@@ -1,36 +1,37 @@
-//! Of whom something is remembered, and which questions need no more of it.
+//! For which profiles runs are remembered, and for which questions this is complete.
 
 ghost use Rattle.std.specs.Prelude.{◌≡◌};
 
 use aa_decide_ready::Entry;
 use std::alloc::Global;
 
-// Of how many profiles, children and hats something is remembered at once.
+// For how many profiles, children and hats runs are remembered at once.
 const MOST_ASKERS: usize = 8;
 
-// So many fingerprints are kept.
+// How many fingerprints are kept.
 const FINGERPRINTS: usize = 4096;
 
-// So many bytes of a path's end go into its fingerprint.
+// How many bytes at a path's end go into its fingerprint.
 const MOST_PRINTED: usize = 256;
 
-/// A profile in a slot, or its child or hat at a place.
+/// A profile in a slot, or its child or hat at an index.
 #[derive(Clone, Copy, PartialEq, Eq)]
 pub(crate) struct Warm {
     pub slot: usize,
     pub child: Option<usize>,
 }
 
-/// Of whom something is remembered, and fingerprints of questions about paths of which all is.
+/// For which profiles runs are remembered, and fingerprints of the questions about paths for which this is complete.
 #[derive(Drop)]
 pub(crate) struct Remembered {
     alloc: Global,
     askers: Vec<Warm>,
-    // Each at its remainder. Where a fingerprint is that of another question too, no more is remembered of that one: its answer is the same.
+    // Each fingerprint at its remainder. Where a question has the fingerprint of another, no more is remembered for it; its answer is the same.
     fingerprints: Vec<u32>,
 }
 
-/// A number by which a question is known again: of who asks, and of how long the path is and how it ends, so that a long path takes no longer than others.
+/// A number by which a question is recognized: of the asker's name, and of how long the path is and how it ends, so that a long path takes no longer
+/// than others.
 pub fn fingerprint(who: &[u8], path: &[u8]) -> u32 {
     let (_, end) = path.split_at(path.len().saturating_sub(MOST_PRINTED));
     let print = with_bytes(0x811c_9dc5, who);
@@ -38,7 +39,7 @@ pub fn fingerprint(who: &[u8], path: &[u8]) -> u32 {
     with_bytes(print, end)
 }
 
-// A fingerprint of some bytes more.
+// A fingerprint continued with some bytes.
 fn with_bytes(print: u32, bytes: &[u8]) -> u32 {
     let mut print = print;
     for byte in bytes {
@@ -47,18 +48,18 @@ fn with_bytes(print: u32, bytes: &[u8]) -> u32 {
     print
 }
 
-// A fingerprint of a number more.
+// A fingerprint continued with a number.
 fn with_number(print: u32, number: u32) -> u32 {
     (print ^ number).wrapping_mul(0x0100_0193)
 }
 
-// Where a fingerprint is kept.
+// The index at which a fingerprint is kept.
 fn place_of(fingerprint: u32) -> usize {
     fingerprint as usize % FINGERPRINTS
 }
 
 impl Remembered {
-    /// Nothing. It takes no memory.
+    /// Nothing remembered. It takes no memory.
     pub fn new(alloc: Global) -> Remembered {
         Remembered {
             alloc,
@@ -67,12 +68,12 @@ impl Remembered {
         }
     }
 
-    /// Whether all is remembered of the path of a question with this fingerprint.
+    /// Whether all is remembered for the path of a question with this fingerprint.
     pub fn has(&self, fingerprint: u32) -> bool {
         self.fingerprints.get(place_of(fingerprint)) == Some(&fingerprint)
     }
 
-    /// Notes that all is remembered of the path of a question with this fingerprint, where there is memory for that.
+    /// Notes that all is remembered for the path of a question with this fingerprint, where there is memory for that.
     pub fn note(&mut self, fingerprint: u32) {
         if self.fingerprints.is_empty() {
             match vec![in self.alloc; 0; FINGERPRINTS] {
@@ -85,7 +86,7 @@ impl Remembered {
         }
     }
 
-    /// Notes of whom something is remembered, if it can be noted. Where there are too many, all is forgotten before.
+    /// Notes for whom runs are remembered, and returns whether it could be noted. Where there are too many, all is forgotten before.
     pub fn keep(&mut self, slots: &mut Vec<Option<Entry>>, asker: Warm) -> bool
         ensures { slots.new.items ≡ slots.old.items }
     {
@@ -98,7 +99,7 @@ impl Remembered {
         self.askers.push(asker).is_ok()
     }
 
-    /// Forgets all, the last first.
+    /// Forgets everything, the last profile first.
     pub fn forget_all(&mut self, slots: &mut Vec<Option<Entry>>)
         ensures { slots.new.items ≡ slots.old.items }
     {
@@ -111,7 +112,7 @@ impl Remembered {
     }
 }
 
-// Forgets what is remembered of the profile in a slot, or of its child or hat at a place, if one is in it.
+// Forgets what is remembered for the profile in a slot, or for its child or hat at an index, if the slot is filled.
 fn forget(slot: &mut Option<Entry>, alloc: Global, child: Option<usize>)
     ensures { slot.new ≡ slot.old }
 {

@@ -12,19 +12,19 @@ use aa_decide_ready::{AttachmentIndex, Entry, IndexedSlots, NameIndex};
 use std::alloc::{AllocError, Global};
 use std::marker::Model;
 
-// So many times names and attachments are looked for by going over the slots, before they are kept beside them.
+// So many times names and attachments are looked up by going over the slots, before an index of them is made.
 const SEVERAL: u8 = 3;
 
 /// Slots, each of which is empty or holds a loaded profile. Contracts see the list of the slots, with the empty ones.
 pub struct Slots {
     alloc: Global,
     slots: Vec<Option<Entry>>,
-    // What is kept beside the slots until other profiles come into them. Contracts don't see it.
+    // The indices over the slots, until the profiles in them change. Contracts don't see them.
     names: Option<NameIndex>,
     attachments: Option<AttachmentIndex>,
-    // How often it was asked for since then, as far as that matters.
+    // How often an index was asked for since then, up to `SEVERAL`.
     asked: u8,
-    // Of whom something is remembered.
+    // For which profiles runs are remembered.
     remembered: Remembered,
 }
 
@@ -61,7 +61,7 @@ impl Model for Slots {
 }
 
 impl Slots {
-    /// No slots. It takes no memory.
+    /// No slot. It takes no memory.
     pub fn new(alloc: Global) -> Slots
         ensures { result ≡ [] }
     {
@@ -82,15 +82,15 @@ impl Slots {
         self.slots.as_slice()
     }
 
-    /// The slots with what is kept beside them. It takes no memory.
+    /// The slots with the indices over them. It takes no memory.
     pub fn indexed(&self) -> IndexedSlots<'_>
         ensures { result ≡ self.now }
     {
         IndexedSlots::with(&self.slots, self.names.as_ref(), self.attachments.as_ref())
     }
 
-    /// Sees to it that names are found without going over the slots, and attachments if they are looked for. It does nothing when it is called for the
-    /// first few times since other profiles came into the slots; and where memory runs out, they are gone over. Contracts don't see it.
+    /// Makes an index of the names in the slots, and one of attachments if `attachments`, if they aren't there. It does nothing the first few times
+    /// after the profiles in the slots have changed; and where memory runs out, there is no index. Contracts don't see it.
     pub fn index(&mut self, attachments: bool)
         ensures { self.new ≡ self.old }
     {
@@ -106,7 +106,7 @@ impl Slots {
         }
     }
 
-    /// The number of the slot behind the last filled one: from there on a change can fill slots that no other has. It takes no memory.
+    /// The number of the slot after the last filled one: from there on a change can fill empty slots. It takes no memory.
     pub fn end(&self) -> usize
         ensures end { result ≡ length (trimmed self.now) }
         ensures small { result < 9223372036854775808 }
@@ -114,7 +114,7 @@ impl Slots {
         end_of(&self.slots)
     }
 
-    // Puts empty slots behind the others, until there are so many.
+    // Appends empty slots, until there are `many`.
     pub(crate) fn grow(&mut self, many: usize) -> Result<(), AllocError>
         ensures same { trimmed self.new ≡ trimmed self.old }
         ensures grows { length self.old ≤ length self.new }
@@ -129,7 +129,7 @@ impl Slots {
         grow(&mut self.slots, many)
     }
 
-    // Exchanges parts with their slots, one behind the other, and turns the order of the parts.
+    // Exchanges parts with their slots, one after the other, and reverses the order of the parts.
     pub(crate) fn exchange(&mut self, parts: &mut Vec<Part>)
         requires { All (λ part. part.slot < length self.old) parts.old.items }
         ensures slots { trimmed self.new ≡ after (trimmed self.old) parts.old.items }
@@ -143,7 +143,7 @@ impl Slots {
         }
     }
 
-    // The same with parts that exchange states alone: what is kept beside the slots stays.
+    // Exchanges parts that are states alone: indices and what is remembered stay.
     fn exchange_states(&mut self, parts: &mut Vec<Part>)
         requires within { All (λ part. part.slot < length self.old) parts.old.items }
         requires states { list_all is_state parts.old.items ≡ true }
@@ -154,7 +154,7 @@ impl Slots {
         exchange_all(&mut self.slots, parts);
     }
 
-    // The same with any parts: nothing stays, and nothing that was remembered goes with a profile out of the slots.
+    // Exchanges any parts: indices are dropped, and what is remembered is forgotten, so that none of it leaves the slots with a profile.
     fn exchange_any(&mut self, parts: &mut Vec<Part>)
         requires { All (λ part. part.slot < length self.old) parts.old.items }
         ensures slots { trimmed self.new ≡ after (trimmed self.old) parts.old.items }
@@ -168,9 +168,9 @@ impl Slots {
         exchange_all(&mut self.slots, parts);
     }
 
-    /// Remembers what follows at the places of a path, of the profile in a slot or of its child or hat at a place (`Entry::remember`), for at most eight
-    /// of them: where a ninth comes, what is remembered of the others is forgotten before. It stays until other profiles come into the slots. Where all
-    /// of it is remembered now, the question is known by its fingerprint (`is_remembered`). Contracts don't see it.
+    /// Remembers which states are live at the places of a path, for the profile in a slot or for its child or hat at an index (`Entry::remember`),
+    /// for at most eight of them: where a ninth comes, what is remembered for the others is forgotten before. It is kept until the profiles in the
+    /// slots change. Where all of it is remembered now, the question is recognized by its fingerprint (`is_remembered`). Contracts don't see it.
     pub fn remember(&mut self, slot: usize, child: Option<usize>, path: &[u8], fingerprint: u32)
         ensures { self.new ≡ self.old }
     {
@@ -182,13 +182,13 @@ impl Slots {
         }
     }
 
-    /// Whether no more is to be remembered of the path of a question with this fingerprint. Contracts don't see it.
+    /// Whether no more is to be remembered for the path of a question with this fingerprint. Contracts don't see it.
     pub fn is_remembered(&self, fingerprint: u32) -> bool {
         self.remembered.has(fingerprint)
     }
 }
 
-// Remembers what follows at the places of a path, of the profile in a slot, if one is in it. Tells whether all of it is remembered now.
+// Remembers which states are live at the places of a path, for the profile in a slot, if it is filled. Returns whether all of it is remembered now.
 fn remember(slot: &mut Option<Entry>, alloc: Global, child: Option<usize>, path: &[u8]) -> bool
     ensures { slot.new ≡ slot.old }
 {
@@ -198,7 +198,7 @@ fn remember(slot: &mut Option<Entry>, alloc: Global, child: Option<usize>, path:
     }
 }
 
-// How many slots there are up to the last filled one.
+// The number of the slot after the last filled one.
 fn end_of(slots: &[Option<Entry>]) -> usize
     ensures end { result ≡ length (trimmed slots.now) }
     ensures within { result ≤ length slots.now }
@@ -210,7 +210,7 @@ fn end_of(slots: &[Option<Entry>]) -> usize
     end
 }
 
-// Puts empty slots behind others, until there are so many.
+// Appends empty slots, until there are `many`.
 fn grow(slots: &mut Vec<Option<Entry>>, many: usize) -> Result<(), AllocError>
     ensures same { trimmed slots.new.items ≡ trimmed slots.old.items }
     ensures grows { vec_len slots.old ≤ vec_len slots.new }
@@ -233,7 +233,7 @@ fn exchange(slots: &mut Vec<Option<Entry>>, part: &mut Part)
     part.content.exchange(&mut slots[part.slot]);
 }
 
-// Whether each of some parts exchanges a state alone.
+// Whether all of some parts exchange a state alone.
 fn are_states(parts: &[Part]) -> bool
     ensures { result ≡ list_all is_state parts.now }
 {
@@ -250,7 +250,7 @@ fn is_state(part: &Part) -> bool
     }
 }
 
-// Exchanges parts with their slots, one behind the other, and turns the order of the parts.
+// Exchanges parts with their slots, one after the other, and reverses the order of the parts.
 fn exchange_all(slots: &mut Vec<Option<Entry>>, parts: &mut [Part])
     requires { All (λ part. part.slot < length slots.old.items) parts.old }
     ensures slots { trimmed slots.new.items ≡ after (trimmed slots.old.items) parts.old }

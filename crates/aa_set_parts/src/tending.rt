@@ -1,14 +1,14 @@
-//! What is done to slots for questions, which changes nothing of the policy set.
+//! Work on slots for questions, which changes nothing of the policy set.
 
 use crate::slots::Slots;
 use aa_history::Tend;
 
-/// What follows at the places of a path is remembered, of the profile in a slot or of its child or hat at a place.
+/// Remembers which states are live at the places of a path, for the profile in a slot or for its child or hat at an index.
 #[derive(Clone, Copy)]
 pub struct Remembering<'a> {
     /// The slot.
     pub slot: usize,
-    /// The place of the child or hat; none where the profile itself is asked.
+    /// The index of the child or hat; `None` where it is the profile itself.
     pub child: Option<usize>,
     /// The path.
     pub path: &'a [u8],
@@ -16,10 +16,10 @@ pub struct Remembering<'a> {
     pub fingerprint: u32,
 }
 
-/// Names are found without going over the slots, and attachments if they are looked for (`Slots::index`).
+/// Makes indices of names, and of attachments if these are looked up (`Slots::index`).
 #[derive(Clone, Copy)]
 pub struct Indexing {
-    /// Whether attachments are looked for.
+    /// Whether attachments are looked up.
     pub attachments: bool,
 }
 

@@ -16,7 +16,7 @@ pub record Run : Type 0 where
   pub base : List ℕ
   pub names : List (List ℕ)
 
--- what is asked for: a run, help, the version, or nothing that there is
+-- what is asked for: a run, help, the version, or nothing that exists
 abbrev pub Asked : Type 0
 Asked = AskedOf Run
 
@@ -32,19 +32,19 @@ language_name = codes "language"
 abbrev pub bare_run : Run
 bare_run = record { language = word_of Three; force_complain = false; base = default_base; names = [] }
 
--- the same run by another language
+-- a run with another language
 abbrev pub read_by : List ℕ → Run → Run
 read_by word run = record run { language = word }
 
--- the same run in complain mode
+-- a run with every profile in complain mode
 abbrev pub forced : Run → Run
 forced run = record run { force_complain = true }
 
--- the same run over another folder
+-- a run over another folder
 abbrev pub below : List ℕ → Run → Run
 below folder run = record run { base = folder }
 
--- the same run with more names behind its own
+-- a run with more names after its own
 abbrev pub with_names : List (List ℕ) → Run → Run
 with_names names run = record run { names = run.names ++ names }
 
@@ -87,7 +87,7 @@ asked_by_language run = asked_in (language_named run.language) run
 abbrev pub asked_at_end : Run → Asked
 asked_at_end run = asked_then asked_by_language (asked_with run.names run)
 
--- what words ask for behind those that came to this
+-- what words ask for after words with this result
 abbrev pub asked_behind : SoFar Run → List (List ℕ) → Asked
 asked_behind so_far given = asked_then asked_at_end (words.asked_behind run_options so_far given)
 

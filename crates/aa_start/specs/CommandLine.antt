@@ -1,4 +1,4 @@
--- The command line, as `clap` is told of it.
+-- The command line, as it is described to `clap`.
 use Rattle.std.specs.Prelude.{true, codes}
 use Rattle.aa_start.specs.Lines.{bare_line, flag_rule, named_value_rule, value_rule, with_version, words_rule}
 use Rattle.aa_start.specs.Options.{base_letter}
@@ -14,7 +14,7 @@ language_rule = named_value_rule (codes "LANGUAGE") language_name
 abbrev pub complain_rule : Rule
 complain_rule = flag_rule (codes "COMPLAIN") complain_letter
 
--- the folder below which names lie
+-- the folder of the names
 abbrev pub base_rule : Rule
 base_rule = value_rule (codes "DIR") base_letter
 
@@ -22,7 +22,7 @@ base_rule = value_rule (codes "DIR") base_letter
 abbrev pub name_rule : Rule
 name_rule = words_rule (codes "NAME") true
 
--- the command line without its arguments; the program tells its version
+-- the command line without its arguments; the program prints its version
 abbrev pub versioned_line : App
 versioned_line = on_top with_version (bare_line (codes "aaset"))
 

@@ -1,4 +1,4 @@
--- The files that are taken, and why some can't be.
+-- The files that are read, and why some can't be.
 use Rattle.std.specs.Prelude.{◌≡◌, ◌<◌, ◌≤◌, ◌⊎◌, ℕ, List, ◌∷◌, ◌++◌, length, map, IfSome, IsFalse, IsTrue, Vec, String, string_bytes, false}
 use Rattle.aa_text_files.specs.Files.{File, is_bad_file, is_folder_name}
 use Rattle.aa_text_files.specs.Limit.{most_bytes}
@@ -12,7 +12,7 @@ use Rattle.aa_start.specs.declared.gathering.GatherFault.TheVariants.{Untaken, M
 abbrev pub names_of : List File → List (List ℕ)
 names_of files = map (λ file. file.0) files
 
--- the names that are given
+-- the texts of the given names
 abbrev pub texts_of : {A B : Type 0} → Vec (String A) B → List (List ℕ)
 texts_of names = map string_bytes names.items
 
@@ -36,14 +36,14 @@ IsTooLongBelow known base name = IsFalse (is_folder_name name) × IfSome (known.
 abbrev pub IsUnreadableBelow : Known → List ℕ → List ℕ → Type 0
 IsUnreadableBelow known base name = IsUnreadBelow known base name ⊎ IsTooLongBelow known base name
 
--- The fault of a name behind these: the name is told where it is refused, whatever its file is, or its file can't be read. Memory is never told of
--- one that is refused, which is found without it.
+-- The fault of a name after these: it is the name itself where that is refused, whatever its file is, or that its file can't be read. A refused name
+-- is found without allocating, so memory never runs out at one.
 abbrev pub IsFaultBehind : Known → List ℕ → List (List ℕ) → List ℕ → GatherFault → Type 0
 IsFaultBehind known base before name (Untaken text) =
     (string_bytes text ≡ name) × (IsTrue (is_refused_behind before name) ⊎ IsUnreadableBelow known base name)
 IsFaultBehind known base before name Memory = IsFalse (is_refused_behind before name)
 
--- The fault is that of the first name at which there is one: those before it are good and different from each other.
+-- The fault is that of the first name that has one: the names before it are good and different from each other.
 pub record IsFirstFault (known : Known) (base : List ℕ) (names : List (List ℕ)) (fault : GatherFault) : Type 0 where
   pub before : List (List ℕ)
   pub name : List ℕ

@@ -7,7 +7,8 @@ use Rattle.clap.specs.Words.{App, IsAmong, Row, Text, fault_of, is_simple, is_si
 use Rattle.clap.specs.declared.error.kind.ErrorKind.{ErrorKind}
 use Rattle.clap.specs.declared.error.kind.ErrorKind.TheVariants as kind
 
--- What is asked for is given, help and the version are given where they are asked for, and all else is refused. Memory may run out at any time.
+-- Where a thing is asked for it is given, help and the version are given where they are asked for, and all else is refused. Memory may run out at
+-- any time.
 abbrev pub IsGivenFor : {A B : Type 0} → (B → A) → Asked A → Result B ArgumentFault → Type 0
 IsGivenFor meant (ForThis asked) (Ok given) = meant given ≡ asked
 IsGivenFor meant ForHelp (Err (Help text)) = Unit {0}
@@ -29,11 +30,11 @@ IsFaultFor kind.OutOfMemory fault = ⊥
 IsFaultFor other Bad = Unit {0}
 IsFaultFor other fault = ⊥
 
--- the parse of words fails, by a fault of a kind that comes there, or for want of memory
+-- the parse of words fails, by a fault of a kind that can occur there, or for want of memory
 abbrev pub FailsAs : App → List Text → ArgumentFault → Type 0
 FailsAs line words fault = is_simple_and_free line ≡ true
     → (k : ErrorKind) × ((k ≡ kind.OutOfMemory) ⊎ IsAmong k (fault_of line words)) × IsFaultFor k fault
 
--- the parse of words passes, and gives these rows
+-- the parse of words succeeds, and gives these rows
 abbrev pub GivesRows : App → List Text → List Row → Type 0
 GivesRows line words rows = is_simple_and_free line ≡ true → is_simple line ≡ true → (fault_of line words ≡ []) × (rows ≡ matches_of line words)

@@ -9,7 +9,7 @@ pub record Known : Type 1 where
   pub bytes_at : List ℕ → Option (List ℕ)
   pub IsUnreadable : List ℕ → Type 0
 
--- nothing is known of any file: each may be one that can't be read
+-- nothing is known of any file: each may be unreadable
 abbrev pub nothing_known : Known
 nothing_known = record { bytes_at = λ _. None; IsUnreadable = λ _. ⊤ }
 

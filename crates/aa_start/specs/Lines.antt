@@ -1,4 +1,4 @@
--- The rules by which `clap` is told of a command line, and what they have to be for it to read words as options say.
+-- The rules that describe a command line to `clap`, and what they have to be for it to read words as the options say.
 use Rattle.std.specs.Prelude.{◌≡◌, ◌≤◌, ℕ, Bool, true, false, List, [], ◌∷◌, ◌++◌, Option, Some, None, length}
 use Rattle.std.specs.Char.{encode_utf8}
 use Rattle.std.specs.Str.{bytes_eq}
@@ -41,7 +41,7 @@ without_own_name top = record top { no_binary_name = true }
 abbrev pub with_last_option : Shape → Shape
 with_last_option top = record top { args_override_self = true }
 
--- the program tells its version
+-- the program prints its version
 abbrev pub with_version : Shape → Shape
 with_version top = record top { has_version = true }
 
@@ -70,17 +70,17 @@ IsDoneBy Shows rules words Version (Some r) = (takes_values r ≡ false) × ((ro
 IsDoneBy Shows rules words Unknown None = Unit {0}
 IsDoneBy Shows rules words effect rule = ⊥
 
--- an option behind whose letter more may stand in the word
+-- an option after whose letter more may follow in the word
 abbrev pub GoesOn : {A : Type 0} → Effect A → Type 0
 GoesOn (Flag change) = Unit {0}
 GoesOn (Value change) = Unit {0}
 GoesOn other = ⊥
 
--- `clap`, told of this line, reads words as the options say, where rows show what is given.
+-- `clap`, given this line, reads words as the options say, where rows show what is given.
 pub record Reads {A : Type 0} (options : Options A) (line : App) (Shows : A → List Row → Type 0) : Type 0 where
   pub words : Rule
   pub bare : A
-  -- the line is one of which `clap` says what it makes of words, and has no subcommands
+  -- the line is one for which it is defined what `clap` makes of words, and has no subcommands
   pub simple : is_simple line ≡ true
   pub free : is_simple_and_free line ≡ true
   pub subs : (built line).subs ≡ []
@@ -90,7 +90,7 @@ pub record Reads {A : Type 0} (options : Options A) (line : App) (Shows : A → 
   pub by_letter : (x : ℕ) → IsDoneBy Shows (built line).top.rules words (options.by_letter x) (arg_by_short (built line).top.rules x)
   pub by_name : (name : Text) → IsDoneBy Shows (built line).top.rules words (options.by_name name) (arg_by_long (built line).top.rules name)
   pub one_byte : (x : ℕ) → GoesOn (options.by_letter x) → length (encode_utf8 x) ≡ 1
-  -- and so have words that are no options
+  -- words that are no options have their rule
   pub found : arg_by_id (built line).top.rules words.id ≡ Some words
   pub placed : arg_by_index (built line).top.rules 1 ≡ Some words
   pub several : takes_several words ≡ true

@@ -1,4 +1,4 @@
--- Names that files and folders are taken under, and what is wrong with some.
+-- Names by which files and folders are read, and what is wrong with some.
 use Rattle.std.specs.Prelude.{◌≡◌, ℕ, Bool, false, ◌||◌, List, [], All}
 use Rattle.std.specs.List.{IsDistinct, list_any}
 use Rattle.std.specs.Str.{bytes_eq}
@@ -12,7 +12,7 @@ is_bad_name name = is_bad_file name []
 abbrev pub is_among : List (List ℕ) → List ℕ → Bool
 is_among names name = list_any (bytes_eq name) names
 
--- a name that can't come behind these, whatever its file is: it is bad, or one of them
+-- a name that can't come after these, whatever its file is: it is bad, or one of them
 abbrev pub is_refused_behind : List (List ℕ) → List ℕ → Bool
 is_refused_behind before name = is_bad_name name || is_among before name
 

@@ -1,4 +1,4 @@
--- What the words of a command line ask for, by its options.
+-- The meaning of the words of a command line, by its options.
 use Rattle.std.specs.Prelude.{ℕ, Bool, false, not, ◌==◌, ◌&&◌, if◌then◌else◌, List, [], ◌∷◌, Option, Some, None, is_some, drop, slice_get, codes}
 use Rattle.std.specs.List.{after_first, before_first, list_any}
 use Rattle.std.specs.Option.{option_map_or}
@@ -8,7 +8,7 @@ use Rattle.std.specs.Str.{bytes_eq, chars}
 abbrev pub hyphen : ℕ
 hyphen = 45
 
--- the byte of the `=` that may stand between an option and its value
+-- the byte of the `=` that may be between an option and its value
 abbrev pub equals_sign : ℕ
 equals_sign = 61
 
@@ -28,29 +28,29 @@ base_letter = 98
 abbrev pub default_base : List ℕ
 default_base = codes "/etc/apparmor.d"
 
--- what is asked for: a thing of some kind, help, the version, or nothing that there is
+-- what is asked for: a thing of some kind, help, the version, or nothing that exists
 pub data Asked (A : Type 0) : Type 0 where
   ForThis : A → Asked A
   ForHelp : Asked A
   ForVersion : Asked A
   Nothing : Asked A
 
--- the same, where the thing is made into another
+-- what is asked for, where the thing is made into another
 abbrev pub asked_as : {A B : Type 0} → (A → B) → Asked A → Asked B
 asked_as made (ForThis thing) = ForThis (made thing)
 asked_as made ForHelp = ForHelp
 asked_as made ForVersion = ForVersion
 asked_as made Nothing = Nothing
 
--- the same, where the thing is made into what is asked for
+-- what is asked for, where the thing is made into what is asked for
 abbrev pub asked_then : {A B : Type 0} → (A → Asked B) → Asked A → Asked B
 asked_then made (ForThis thing) = made thing
 asked_then made ForHelp = ForHelp
 asked_then made ForVersion = ForVersion
 asked_then made Nothing = Nothing
 
--- What an option does with what is asked for so far: a flag changes it, and so does an option with the value that it takes. Others ask for help or the
--- version, and an unknown one asks for nothing that there is.
+-- What an option does with what is asked for so far: a flag changes it, and so does an option with the value that it takes. Other options ask for
+-- help or the version, and an unknown one asks for nothing that exists.
 pub data Effect (A : Type 0) : Type 0 where
   Flag : (A → A) → Effect A
   Value : (List ℕ → A → A) → Effect A
@@ -64,13 +64,13 @@ pub record Options (A : Type 0) : Type 0 where
   pub by_name : List ℕ → Effect A
   pub with_words : List (List ℕ) → A → A
 
--- what words come to: what they ask for so far, the same but for a value that has to be the next word, or what is asked for whatever follows
+-- the result of some words: what they ask for so far, the same but for a value that has to be the next word, or what is asked for whatever follows
 pub data SoFar (A : Type 0) : Type 0 where
   Open : A → SoFar A
   ValueNext : (List ℕ → A) → SoFar A
   Settled : Asked A → SoFar A
 
--- an option: a hyphen, and a character behind it
+-- an option: a hyphen, followed by a character
 abbrev pub is_option : List ℕ → Bool
 is_option [] = false
 is_option (b ∷ rest) = b == hyphen && is_some (slice_get (chars rest) 0)
@@ -79,17 +79,17 @@ is_option (b ∷ rest) = b == hyphen && is_some (slice_get (chars rest) 0)
 abbrev pub is_name : List ℕ → Bool
 is_name word = not (is_option word)
 
--- the value that stands behind a letter in its word, without one `=` at its beginning
+-- the value that follows a letter in its word, without one `=` at its beginning
 abbrev pub attached : List ℕ → List ℕ
 attached [] = []
 attached (b ∷ rest) = if b == equals_sign then rest else b ∷ rest
 
--- what stands behind a letter in its word is its value, and where nothing does, the next word is
+-- what follows a letter in its word is its value, and where nothing does, the next word is
 abbrev pub with_attached : {A : Type 0} → List ℕ → (List ℕ → A) → SoFar A
 with_attached [] given = ValueNext given
 with_attached (b ∷ rest) given = Open (given (attached (b ∷ rest)))
 
--- an option of one letter, by what it does: behind a flag more letters stand, and behind an option that takes a value that value
+-- an option of one letter, by what it does: after a flag more letters follow, and after an option that takes a value that value
 abbrev pub by_letter_effect : {A : Type 0} → Effect A → List ℕ → A → (A → SoFar A) → SoFar A
 by_letter_effect (Flag change) rest given more = more (change given)
 by_letter_effect (Value change) rest given more = with_attached rest (λ value. change value given)
@@ -115,15 +115,15 @@ by_name_effect Version None given = Settled ForVersion
 by_name_effect Version (Some value) given = Settled Nothing
 by_name_effect Unknown value given = Settled Nothing
 
--- an option's name: what stands behind its hyphens, up to the first `=` if there is one
+-- an option's name: what follows its hyphens, up to the first `=` if there is one
 abbrev pub option_name : List ℕ → List ℕ
 option_name text = before_first (λ b. b == equals_sign) text
 
--- the value in an option's word: what stands behind the first `=`, if there is one
+-- the value in an option's word: what follows the first `=`, if there is one
 abbrev pub option_value : List ℕ → Option (List ℕ)
 option_value text = if list_any (λ b. b == equals_sign) text then Some (after_first (λ b. b == equals_sign) text) else None
 
--- an option, by what stands behind its first hyphen: behind a second one its name, and else letters
+-- an option, by what follows its first hyphen: after a second one its name, and else letters
 abbrev pub by_option : {A : Type 0} → Options A → List ℕ → A → SoFar A
 by_option options [] given = Open given
 by_option options (b ∷ rest) given =
@@ -133,7 +133,7 @@ by_option options (b ∷ rest) given =
 abbrev pub by_word : {A : Type 0} → Options A → List ℕ → A → SoFar A
 by_word options word given = if is_option word then by_option options (drop 1 word) given else Open (options.with_words (word ∷ []) given)
 
--- What words ask for behind those that came to this. Behind `--` no word is an option. No option and no `--` is a value.
+-- What words ask for after words with this result. After `--` no word is an option. No option and no `--` is a value.
 abbrev pub asked_behind : {A : Type 0} → Options A → SoFar A → List (List ℕ) → Asked A
 asked_behind options (Settled asked) words = asked
 asked_behind options (ValueNext given) [] = Nothing

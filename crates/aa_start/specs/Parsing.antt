@@ -9,14 +9,14 @@ use Rattle.clap.specs.Kinds.{Kinds}
 use Rattle.clap.specs.declared.error.kind.ErrorKind.{ErrorKind}
 use Rattle.clap.specs.declared.error.kind.ErrorKind.TheVariants as kind
 
--- the kinds of error that say that words ask for nothing that there is
+-- the kinds of error that say that words ask for nothing that exists
 abbrev pub is_bad : ErrorKind → Bool
 is_bad kind.DisplayHelp = false
 is_bad kind.DisplayVersion = false
 is_bad kind.OutOfMemory = false
 is_bad other = true
 
--- such a kind
+-- a kind of error that says that words ask for nothing that exists
 abbrev pub AreBad : Kinds → Type 0
 AreBad kinds = (k : ErrorKind) × (kinds ≡ k ∷ []) × (is_bad k ≡ true)
 
@@ -24,7 +24,7 @@ AreBad kinds = (k : ErrorKind) × (kinds ≡ k ∷ []) × (is_bad k ≡ true)
 abbrev pub with_defaults : App → List Row → List Row
 with_defaults line rows = fold with_default rows (built line).top.rules
 
--- The parse gives what is asked for, where no more is wanted of it, or fails as it is asked for.
+-- The parse gives what is asked for, where nothing more is wanted of it, or fails as is asked for.
 abbrev pub IsReadAs : {A : Type 0} → App → (A → List Row → Type 0) → List Text → Asked A → Type 0
 IsReadAs line Shows words (ForThis given) = (rows : List Row) × Shows given rows × (matches_of line words ≡ with_defaults line rows)
     × (fault_of line words ≡ check_fault (built line).top (with_defaults line rows) false)

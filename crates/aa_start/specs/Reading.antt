@@ -1,4 +1,4 @@
--- What a reader gives, and why the bytes of a file aren't there.
+-- What a reader gives, and why the bytes of a file aren't known.
 use Rattle.std.specs.Prelude.{◌≡◌, ◌==◌, ℕ, Bool, false, List, [], ◌∷◌, ◌++◌, Option, codes, if◌then◌else◌}
 use Rattle.std.specs.Io.KnownBytes.{Consumes}
 use Rattle.std.specs.declared.io.ErrorKind.{ErrorKind}
@@ -15,11 +15,11 @@ is_whole_path (b ∷ rest) = b == 47
 abbrev pub path_of : List ℕ → List ℕ → List ℕ
 path_of base name = if is_whole_path name then name else (base ++ codes "/") ++ name
 
--- the system's refusal for want of memory is kept apart from all others
+-- the system's refusal for want of memory is kept apart from all other refusals
 abbrev pub read_fault_of : ErrorKind → ReadFault
 read_fault_of kind.OutOfMemory = Memory
 read_fault_of _ = Unreadable
 
--- what a reader gave up, where its bytes are known, stands behind the bytes that were there
+-- what a reader gave, where its bytes are known, follows the bytes that were there
 abbrev pub ReadsBehind : Option (List ℕ) → List ℕ → Option (List ℕ) → List ℕ → Type 0
 ReadsBehind left bytes left_after bytes_after = (read : List ℕ) × Consumes left left_after read × (bytes_after ≡ bytes ++ read)

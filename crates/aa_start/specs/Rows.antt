@@ -30,7 +30,7 @@ flag_rows id false = []
 abbrev pub ShowsValue : Text → Option Text → List Row → Type 0
 ShowsValue id value rows = picked id rows ≡ value_rows id value
 
--- the rows show these words
+-- the rows show the words that are no options
 abbrev pub ShowsWords : Text → List Text → List Row → Type 0
 ShowsWords id words rows = picked id rows ≡ word_rows id words
 

@@ -6,6 +6,6 @@ use Rattle.std.specs.Borrow.{Bor}
 abbrev pub texts : {A B : Type 0} → Vec (String A) B → List (List ℕ)
 texts names = map string_bytes names.items
 
--- the texts behind references
+-- the texts that are borrowed
 abbrev pub words_of : List (Bor (List ℕ)) → List (List ℕ)
 words_of words = map (λ word. word.now) words

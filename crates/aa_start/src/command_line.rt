@@ -1,4 +1,4 @@
-//! The command line, as `clap` is told of it.
+//! The command line, as it is declared to `clap`.
 ghost use Rattle.std.specs.Prelude.{◌≡◌, false, IfOk};
 ghost use Rattle.aa_start.specs.CommandLine.{base_rule, command_line, complain_rule, language_rule, name_rule, versioned_line};
 ghost use Rattle.clap.specs.Words.{app_of, rule_of};
@@ -8,7 +8,7 @@ use crate::version::VERSION;
 use clap::{Arg, Command};
 use std::alloc::{AllocError, Global};
 
-// What help says behind the arguments and options.
+// What help prints after the arguments and options.
 const MORE_HELP: &str = "\
 A NAME that begins with / is read as it stands, and any other one below DIR, which is
 /etc/apparmor.d unless it is given. Each file is read once, before the first command:
@@ -69,7 +69,7 @@ fn complain_argument<'a>(alloc: Global) -> Arg<'a>
     )
 }
 
-// The option for the folder below which names lie.
+// The option for the folder below which relative names are looked up.
 fn base_argument<'a>(alloc: Global) -> Arg<'a>
     ensures rule { rule_of result ≡ base_rule }
     ensures local { result.global ≡ false }
@@ -82,7 +82,7 @@ fn base_argument<'a>(alloc: Global) -> Arg<'a>
     )
 }
 
-// The argument for the names, of which there has to be one.
+// The argument for the names, at least one.
 fn name_argument<'a>(alloc: Global) -> Arg<'a>
     ensures rule { rule_of result ≡ name_rule }
     ensures local { result.global ≡ false }

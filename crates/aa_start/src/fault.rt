@@ -1,13 +1,13 @@
-//! Why arguments ask for nothing that a program could do.
+//! Why arguments don't ask for a run.
 
-/// Why the arguments ask for nothing that a program could do.
+/// Why arguments don't ask for a run.
 #[derive(Drop)]
 pub enum ArgumentFault {
-    /// Help was asked for: its text, which ends its last line.
+    /// Help was asked for: its text, with the last line feed.
     Help(String),
-    /// The version was asked for: the line that tells it, with its end.
+    /// The version was asked for: the line with it, with its line feed.
     Version(String),
-    /// The arguments ask for something that there isn't, or lack something that is wanted.
+    /// The arguments ask for something that doesn't exist, or lack something that is required.
     Bad,
     /// Memory ran out.
     Memory,

@@ -20,16 +20,16 @@ pub trait FileSystem {
     ///
     /// # Errors
     ///
-    /// That of the system. Its kind is `OutOfMemory` for want of memory alone.
+    /// The error of the system. Its kind is `OutOfMemory` only where memory ran out.
     fn open(&self, path: &str) -> io::Result<Self::File>
         ensures ok { IfOk result (λ file. IfSome ((known self.now).bytes_at path.now) (λ bytes. Self.File.remaining file ≡ Some bytes)) }
         ensures err { IfErr result (λ error. SaysUnreadable (known self.now) path.now (error_kind error)) };
 
-    /// Reads a piece of a file that was opened at a path, as `Read::read` does, and says how many bytes that are.
+    /// Reads a piece of a file that was opened at a path, as `Read::read` does, and returns how many bytes that are.
     ///
     /// # Errors
     ///
-    /// That of the system. Its kind is `OutOfMemory` for want of memory alone.
+    /// The error of the system. Its kind is `OutOfMemory` only where memory ran out.
     fn read_piece(&self, path: &str, file: &mut Self::File, piece: &mut [u8]) -> io::Result<usize>
         ensures bound { ReadsAtMost result piece.new }
         ensures bytes { ReadConsumes (Self.File.remaining file.old) (Self.File.remaining file.new) result piece.new }

@@ -1,4 +1,4 @@
-//! The files that are named, in their order.
+//! The named files, read in their order.
 ghost use Rattle.std.specs.Prelude.{◌≡◌, ◌++◌, ◌∷◌, [], ℕ, List, false, IfOk, IfErr, OnOk, string_bytes};
 ghost use Rattle.std.specs.List.{All};
 ghost use Rattle.aa_text_files.specs.Files.{has_control_byte};
@@ -12,11 +12,10 @@ use aa_text_files::Files;
 use std::alloc::{AllocError, Global};
 use thiserror::Error;
 
-/// Why the files that are named couldn't be taken.
+/// Why the named files couldn't be read.
 #[derive(Debug, Drop, Error)]
 pub enum GatherFault {
-    /// The first name that can't be taken: its file can't be read or is too long, it comes twice, or it is no name
-    /// for a file.
+    /// The first name that is refused: its file can't be read or is too long, it comes twice, or it is no name for a file.
     #[error("cannot take {0}")]
     Untaken(String),
     /// Memory ran out.
@@ -39,21 +38,21 @@ fn has_control(name: &[u8]) -> bool
     name.iter().any(|b| *b < b' ')
 }
 
-// Whether neither a file nor a folder has this name: it is empty, or holds a byte below the space.
+// Whether a name is refused for a file and for a folder: it is empty, or holds a byte below the space.
 fn is_bad_name(name: &[u8]) -> bool
     ensures { result ≡ is_bad_name name.now }
 {
     name.is_empty() || has_control(name)
 }
 
-/// Whether a name can't come behind those of these files, whatever its own file is.
+/// Whether a name can't be added to these files, whatever its file has. It takes no memory.
 pub fn is_refused(files: &Files, name: &[u8]) -> bool
     ensures { result ≡ is_refused_behind (names_of files.now) name.now }
 {
     is_bad_name(name) || files.has(name)
 }
 
-// Takes the file that a name stands for, after those that were taken before.
+// Adds the file that a name stands for, after those that were added before.
 fn take<D: FileSystem>(
     disk: &D,
     alloc: Global,
@@ -75,23 +74,23 @@ fn take<D: FileSystem>(
         Err(ReadFault::TooLong) => return Err(GatherFault::Untaken(name)),
         Err(ReadFault::Memory) => return Err(GatherFault::Memory),
     };
-    // Such a name is refused for want of memory alone.
+    // Such a name is refused only where memory runs out.
     match files.insert(name.into_bytes(), bytes) {
         Ok(()) => Ok(()),
         Err(_) => Err(GatherFault::Memory),
     }
 }
 
-/// Takes the files that are named, in this order and under these names, from a file system.
+/// Reads the named files from a file system, in this order and under these names.
 ///
-/// A name that ends in `/` declares a folder, which isn't read and has no bytes. Any other name is a path where it
-/// begins with `/`, and else one below the folder `base`, a path without `/` at its end. Its file is read whole, by pieces.
+/// A name that ends in `/` declares a folder, which isn't read and has no bytes. Any other name is a path where it begins with `/`, and else a path
+/// below the folder `base`, which has no `/` at its end. Its file is read whole, by pieces.
 ///
 /// # Errors
 ///
-/// The first in the order of the names. What was taken before is dropped.
-/// - `Untaken`, with the first name that can't be taken: it is empty, holds a byte below the space or comes twice, all of which is found and
-///   told without memory, or its file can't be opened or read, as the file system says, or is longer than 16,777,216 bytes.
+/// The first in the order of the names. What was read before is dropped.
+/// - `Untaken`, with the first name that is refused: it is empty, holds a byte below the space or comes twice, all of which is found and returned
+///   without allocating, or its file can't be opened or read, as the file system says, or is longer than 16,777,216 bytes.
 /// - `Memory` where memory ran out at a name with which nothing is wrong.
 pub fn gather<D: FileSystem>(
     disk: &D,

@@ -1,4 +1,4 @@
-//! What holds of runs, as laws over the definitions that `plan` is proved to follow.
+//! Properties of runs, as laws over the definitions that `plan` is proved to follow.
 
 ghost use Rattle.std.specs.Prelude.{◌≡◌, ◌<◌, ℕ, false, true, List, [], ◌∷◌, codes, length};
 ghost use Rattle.std.specs.List.{list_all};
@@ -7,8 +7,9 @@ ghost use Rattle.aa_profile_parsing.specs.declared.language.Language.TheVariants
 ghost use Rattle.aa_start.specs.Arguments.{ForRun, Run, asked, asked_at_end, asked_behind, below, forced, read_by, with_names};
 ghost use Rattle.aa_start.specs.Plan.{run_with};
 
-/// Each run has at least one NAME. Words that are no options are its NAMEs, all of them and in their order. Behind `-C` each word asks for what it
-/// would ask for without it, in complain mode, behind `-b` and a folder for the same below that folder, and behind `--language` and a word for the same by that language.
+/// Each run has at least one NAME. Words that are no options are its NAMEs, all of them and in their order. After `-C` each word asks for what it
+/// would ask for without it, in complain mode, after `-b` and a folder for the same below that folder, and after `--language` and a word for the
+/// same by that language.
 pub fn what_runs_have()
     ensures names { (words : List (List ℕ)) (run : Run) → asked words ≡ ForRun run → 0 < length run.names }
     ensures plain { (words : List (List ℕ)) (run : Run)

@@ -1,5 +1,5 @@
-//! What a program starts with: what the words of its arguments ask for (options, their values and the words that are none, as `clap` reads them), and the
-//! files that are named, read from a file system.
+//! What a program does before it begins: it reads its arguments (options, their values and other words, as `clap` reads them), and the named files
+//! from a file system into `Files`. Both programs use it.
 #![tactic(auto)]
 
 mod arguments;

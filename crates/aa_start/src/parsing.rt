@@ -9,7 +9,7 @@ use clap::error::ErrorKind;
 use clap::{ArgMatches, Command, Error};
 use std::alloc::{AllocError, Global};
 
-// What a parse that gave no matches means.
+// The fault for a parse without matches.
 fn fault(alloc: Global, error: &Error) -> ArgumentFault
     ensures { IsFaultFor (kind_of error.now) result }
 {
@@ -27,12 +27,12 @@ fn fault(alloc: Global, error: &Error) -> ArgumentFault
     }
 }
 
-/// What words give the arguments of a command line, as `clap` matches them.
+/// The values that words give to the arguments of a command line, as `clap` matches them.
 ///
 /// # Errors
 ///
 /// - `Help` and `Version` where the first option at fault asks for these.
-/// - `Bad` where it is any other, or an argument that has to be there is missing.
+/// - `Bad` where it is any other, or a required argument is missing.
 /// - `Memory` where memory ran out.
 pub fn parse<'a>(
     alloc: Global,

@@ -14,7 +14,7 @@ use std::alloc::{AllocError, Global};
 // The language by which files are read, where none is given.
 const DEFAULT_LANGUAGE: &str = "3";
 
-// The folder below which NAMEs lie, where none is given.
+// The folder below which NAMEs are looked up, where none is given.
 const DEFAULT_BASE: &str = "/etc/apparmor.d";
 
 // A plan by this language and in this mode, over this folder, with these names.
@@ -35,7 +35,7 @@ fn planned(
     })
 }
 
-// The run that the words behind the program's own name ask for.
+// The run for which the words after the program's name ask.
 fn plan_behind(alloc: Global, words: &[String]) -> Result<Plan, ArgumentFault>
     ensures { IsPlanFor (asked (map string_bytes words.now)) result }
 {
@@ -60,21 +60,21 @@ fn plan_behind(alloc: Global, words: &[String]) -> Result<Plan, ArgumentFault>
     }
 }
 
-/// The run that is asked for by the words that the program was started with.
+/// The run for which the words ask with which the program was started.
 ///
-/// The first word is the program's own name, whatever it is, and the others are its arguments; where there is no first word, there are no
-/// arguments. An argument is a NAME, unless it is an option: a hyphen and more behind it. Behind the argument `--` each one is a NAME. The
-/// option `-C` takes each profile in complain mode. The option `-b` gives the folder below which relative NAMEs lie: behind it in its word, without
-/// one `=` between, or else as the next word, which then is no option and no `--`. The option `--language` gives the language by which files are read,
-/// `3` or `4`: behind `=` in its word, or else as the next word; without it that is 3. Options of one letter may stand in one word, as
-/// `-Cb /srv`, and before, between and behind the NAMEs. Of two folders, or two languages, the last counts. The document is `docs/commands.md`, "The
-/// program".
+/// The first word is the program's own name, whatever it is, and the others are its arguments; where there is no first word, there are no arguments.
+/// An argument is a NAME, unless it is an option: a hyphen followed by more. After the argument `--` each one is a NAME. The option `-C` loads each
+/// profile in complain mode. The option `-b` gives the folder below which relative NAMEs are looked up: as the rest of its word, without one leading
+/// `=`, or else as the next word, which then is no option and no `--`. The option `--language` gives the language by which files are read, `3` or
+/// `4`: after `=` in its word, or else as the next word; without it that is 3. Options of one letter may be in one word, as `-Cb /srv`, and before,
+/// between and after the NAMEs. Of two folders, or two languages, the last counts. The document is `docs/commands.md`, "The program".
 ///
 /// # Errors
 ///
-/// - `Help` where the first option that is neither `-C`, `-b` nor `--language` is `--help` or `-h`, with or without other letters behind `-h`.
-/// - `Version` where it is `--version` or `-V`, with or without other letters behind `-V`.
-/// - `Bad` where it is any other, or where `-b` or `--language` comes before it without a value, or where there is none, and no NAME or no such language.
+/// - `Help` where the first option that is neither `-C`, `-b` nor `--language` is `--help` or `-h`, with or without other letters after `-h`.
+/// - `Version` where it is `--version` or `-V`, with or without other letters after `-V`.
+/// - `Bad` where it is any other, or where `-b` or `--language` comes before it without a value, or where there is no such option, and no NAME or no
+///   such language.
 /// - `Memory` where memory ran out.
 pub fn plan(alloc: Global, all: &[String]) -> Result<Plan, ArgumentFault>
     ensures { IsPlanFor (asked (drop 1 (map string_bytes all.now))) result }

@@ -1,4 +1,4 @@
-//! The files that are named, in their order, where some of them can't be read.
+//! The named files, read in their order, where some of them can't be read.
 
 ghost use Rattle.std.specs.Prelude.{◌≡◌, ◌++◌, ◌∷◌, ◌≤◌, [], ℕ, List, Option, false, IsTrue, IfErr, IfOk, OnOk, map, string_bytes, vec_len};
 ghost use Rattle.std.specs.List.{All};
@@ -18,14 +18,14 @@ use std::alloc::{AllocError, Global};
 /// Why a file wasn't read.
 #[derive(Clone, Copy)]
 pub enum UnreadFault {
-    /// It can't be opened or read, as the file system says.
+    /// The file can't be opened or read, by the file system.
     Unreadable,
-    /// It is longer than 16,777,216 bytes.
+    /// The file is longer than 16,777,216 bytes.
     TooLong,
 }
 
 impl UnreadFault {
-    /// The same in words.
+    /// The fault in words.
     pub fn words(self) -> &'static str
         ensures { result.now ≡ words_of self }
     {
@@ -36,17 +36,17 @@ impl UnreadFault {
     }
 }
 
-/// Files that were taken, some of which may not have been read.
+/// Files that were named, some of which may not have been read.
 #[derive(Drop)]
 pub struct ReadableFiles {
-    /// All of them, by their names. One that wasn't read has a text in its place that is an include of no name: so it is refused where it is read as
-    /// policy, and so is each file that includes it.
+    /// All of them, by their names. One that wasn't read has a placeholder text instead, an include of no name, so that it is refused where it is
+    /// read as policy, and so is each file that includes it.
     pub files: Files,
-    /// For each of them, in their order, why it wasn't read; nothing where it was.
+    /// For each of them, in their order, why it wasn't read; `None` where it was.
     pub unread: Vec<Option<UnreadFault>>,
 }
 
-/// The file that a place stands in, by how many of the files came before it, and why it wasn't read; nothing where it was, or where there is no place.
+/// The index of the file of a place, and why it wasn't read; `None` where it was, or where there is no place. It takes no memory.
 pub fn unread_in(
     unread: &[Option<UnreadFault>],
     place: Option<Place>,
@@ -60,17 +60,17 @@ pub fn unread_in(
     }
 }
 
-// What stands in place of a file that wasn't read.
+// The placeholder text of a file that wasn't read.
 const STAND_IN: &str = "include <> # not read";
 
-/// Whether a text is the one that stands in place of a file that wasn't read. A file may have that text too: it is refused all the same.
+/// Whether a text is the placeholder of a file that wasn't read. A file may have that text too: it is refused all the same.
 pub fn is_stand_in(text: &[u8]) -> bool
     ensures { result ≡ bytes_eq text.now stand_in }
 {
     text == STAND_IN.as_bytes()
 }
 
-// The same as bytes.
+// The placeholder as bytes.
 fn stand_in(alloc: Global) -> Result<Vec<u8>, AllocError>
     ensures text { IfOk result (λ bytes. bytes.items ≡ stand_in) }
     ensures within { IfOk result (λ bytes. vec_len bytes ≤ most_bytes) }
@@ -80,7 +80,7 @@ fn stand_in(alloc: Global) -> Result<Vec<u8>, AllocError>
     Ok(bytes)
 }
 
-// The bytes of the file that a name stands for; or what stands in their place, and why they weren't read.
+// The bytes of the file that a name stands for; or the placeholder, and why the file wasn't read.
 fn bytes_or_stand_in<D: FileSystem>(
     disk: &D,
     alloc: Global,
@@ -98,7 +98,7 @@ fn bytes_or_stand_in<D: FileSystem>(
     }
 }
 
-// Puts a file behind others by its name, with why it wasn't read, if it wasn't.
+// Adds a file after the others, with why it wasn't read, if it wasn't.
 fn put(
     alloc: Global,
     files: &mut Files,
@@ -121,7 +121,7 @@ fn put(
     }
 }
 
-// A name that can't be taken, if there is memory to tell it.
+// The fault for a name that is refused, or `Memory` where the name can't be copied.
 fn untaken(alloc: Global, before: &Files, name: &str) -> GatherFault
     requires { IsTrue (is_refused_behind (names_of before.now) name.now) }
     ensures { IsRefusalBehind (names_of before.now) name.now result }
@@ -132,7 +132,7 @@ fn untaken(alloc: Global, before: &Files, name: &str) -> GatherFault
     }
 }
 
-// Takes the file that a name stands for, or what stands in its place, after those that were taken before.
+// Adds the file that a name stands for, or its placeholder, after those that were added before.
 fn take<D: FileSystem>(
     disk: &D,
     alloc: Global,
@@ -155,12 +155,12 @@ fn take<D: FileSystem>(
     Ok(())
 }
 
-/// Takes the files that are named, in this order and under these names, from a file system, as `gather` does; but one that can't be opened or read,
-/// or is longer than 16,777,216 bytes, ends nothing: what is wrong with it is told, and an include of no name stands in its place.
+/// Reads the named files from a file system, in this order and under these names, as `gather` does; but a file that can't be opened or read, or is
+/// longer than 16,777,216 bytes, is no error: the result says what is wrong with it, and has a placeholder for it, an include of no name.
 ///
 /// # Errors
 ///
-/// What was taken before is dropped.
+/// What was read before is dropped.
 /// - `Untaken`, with the first name that is empty, holds a byte below the space or comes twice.
 /// - `Memory` where memory ran out.
 pub fn gather_readable<D: FileSystem>(

@@ -1,4 +1,4 @@
-//! Reading of a file's bytes, whole.
+//! Reading the bytes of a file, whole.
 ghost use Rattle.std.specs.Prelude.{◌≡◌, ◌+◌, ◌<◌, ◌≤◌, [], IsFalse, IsTrue, IfErr, IfOk, IfSome, OnOk, IsOkAnd, length, string_bytes, vec_len};
 ghost use Rattle.std.specs.Io.KnownBytes.{IsAtEnd};
 ghost use Rattle.std.specs.IoError.{error_kind};
@@ -13,12 +13,12 @@ use aa_text_files::{Files, MOST_BYTES};
 use std::alloc::{AllocError, Global};
 use std::io::{self, ErrorKind};
 
-/// Why the bytes of a file aren't there.
+/// Why the bytes of a file couldn't be read.
 #[derive(Clone, Copy, Debug, PartialEq, Eq)]
 pub enum ReadFault {
     /// The file can't be opened or read.
     Unreadable,
-    /// It is too long.
+    /// The file is longer than 16,777,216 bytes.
     TooLong,
     /// Memory ran out.
     Memory,
@@ -43,10 +43,10 @@ impl From<io::Error> for ReadFault {
     }
 }
 
-// How many bytes a read asks for: as many as most files of policy have. Room for them is cleared for each file.
+// How many bytes a read asks for: most files of policy have no more. A buffer of this size is cleared for each file.
 const PIECE: usize = 8_192;
 
-// Reads a piece behind the bytes that are there, and says whether the reader is at its end.
+// Reads a piece and appends it to the bytes, and returns whether the reader is at its end.
 fn is_read_to_end<D: FileSystem>(
     disk: &D,
     path: &str,
@@ -72,14 +72,14 @@ fn is_read_to_end<D: FileSystem>(
     Ok(count == 0)
 }
 
-// Room for a piece.
+// A buffer for a piece.
 fn piece_room(alloc: Global) -> Result<Vec<u8>, AllocError>
     ensures { IfOk result (λ piece. 0 < vec_len piece) }
 {
     vec![in alloc; 0; PIECE]
 }
 
-// All the bytes that a reader has left, where they are at most MOST_BYTES.
+// All bytes that a reader has left, where they are at most `MOST_BYTES`.
 fn read_whole<D: FileSystem>(
     alloc: Global,
     disk: &D,
@@ -93,7 +93,7 @@ fn read_whole<D: FileSystem>(
 {
     let mut piece = piece_room(alloc)?;
     let mut bytes = Vec::new(alloc);
-    // Each read that isn't at the end gives a byte, so no more reads than that are made, even where a reader gives a byte at a time.
+    // Each read that isn't at the end returns a byte, so no more reads are needed, even where a reader returns a byte at a time.
     for _count in 0..MOST_BYTES + 1 {
         if is_read_to_end(disk, path, file, piece.as_mut_slice(), &mut bytes)? {
             return Ok(bytes);
@@ -102,7 +102,7 @@ fn read_whole<D: FileSystem>(
     Err(ReadFault::TooLong)
 }
 
-// Whether a name is a whole path: it begins with `/`.
+// Whether a name is an absolute path: it begins with `/`.
 fn is_whole_path(name: &str) -> bool
     ensures { result ≡ is_whole_path name.now }
 {
@@ -112,7 +112,7 @@ fn is_whole_path(name: &str) -> bool
     }
 }
 
-// The path of a name: itself where it begins with `/`, and else one below the base.
+// The path of a name: itself where it begins with `/`, and else a path below the base.
 fn path_of(alloc: Global, base: &str, name: &str) -> Result<String, AllocError>
     ensures { IfOk result (λ path. string_bytes path ≡ path_of base.now name.now) }
 {
@@ -125,7 +125,7 @@ fn path_of(alloc: Global, base: &str, name: &str) -> Result<String, AllocError>
     Ok(path)
 }
 
-/// The bytes of the file that a name stands for: a path where it begins with `/`, and else one below the base. Where the name declares a
+/// The bytes of the file that a name stands for: at this path where it begins with `/`, and else at a path below the base. Where the name declares a
 /// folder there are none, and nothing is read.
 ///
 /// # Errors

@@ -1,4 +1,5 @@
-//! The text of AppArmor's profile files: the files by name, their tokens, includes, and variables.
+//! The text of AppArmor's profile files: the files by name (`Files`), their tokens (`tokens`) with those of the files that they include (`spliced`),
+//! and variables with their expansions (`Variables`). All of it works on bytes in memory; profiles are read from tokens by `aa_profile`.
 #![tactic(auto)]
 
 pub use aa_text_files::{Files, FilesError, MOST_BYTES, Place, TextError, TextRefusal};

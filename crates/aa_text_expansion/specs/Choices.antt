@@ -1,4 +1,4 @@
--- Choices: the texts that come of putting a value in for each name in a text, and how many there are.
+-- Choices: the texts that result from a choice of a value for each name in a text, and how many there are.
 use Rattle.std.specs.Prelude.{ℕ, ◌*◌, List, [], ◌∷◌, ◌++◌, map, flat_map}
 use Rattle.aa_text_expansion.specs.Parts.{Part, Byte, Name, Unclosed, parts}
 
@@ -16,6 +16,6 @@ choice_count counts (Byte b ∷ ps) = choice_count counts ps
 choice_count counts (Name name ∷ ps) = counts name * choice_count counts ps
 choice_count counts (Unclosed ∷ ps) = 0
 
--- all choices of values for the names in each of some words, one list behind the other
+-- all choices of values for the names in each of some words, those of one word after those of the one before
 abbrev pub choices_within : (List ℕ → List (List ℕ)) → List (List ℕ) → List (List ℕ)
 choices_within values words = flat_map (λ word. choices values (parts word)) words

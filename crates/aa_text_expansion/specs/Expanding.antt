@@ -1,4 +1,4 @@
--- Texts and words in whose names' places values are put: the numbers of lists of all that comes of it.
+-- Texts and words whose names are replaced by values: the numbers of lists of all results.
 use Rattle.std.specs.Prelude.{ℕ, ◌≡◌, ◌<◌, List, [], length, Option, None, Some}
 use Rattle.aa_text_expansion.specs.Choices.{choices, choices_within}
 use Rattle.aa_text_expansion.specs.Joining.{cut_off}
@@ -17,7 +17,7 @@ held lists numbers name = elim (numbers name) [
 abbrev pub AreThere : List (List (List ℕ)) → (List ℕ → Option ℕ) → Type 0
 AreThere lists numbers = (name : List ℕ) (number : ℕ) → numbers name ≡ Some number → number < length lists
 
--- what is held of a name's values is as they are, as far as texts are kept
+-- the values held for a name are its values, as far as texts are kept
 abbrev pub AreCutOff : (List ℕ → List (List ℕ)) → (List ℕ → List (List ℕ)) → List ℕ → Type 0
 AreCutOff holds values name = cut_off (holds name) ≡ cut_off (values name)
 
@@ -27,7 +27,8 @@ pub record Expands (before : List (List (List ℕ))) (numbers : List ℕ → Opt
   pub within : number < length after
   pub value : (values : List ℕ → List (List ℕ)) → EachNameIn (AreCutOff (held before numbers) values) text → cut_off (list_at after number) ≡ cut_off (choices values (parts text))
 
--- the same of words, the choices of one behind those of the other
+-- A number is that of a list of all choices of values for the names of words, those of one word after those of the one before; and the lists before
+-- are kept.
 pub record ExpandsWords (before : List (List (List ℕ))) (numbers : List ℕ → Option ℕ) (words : List (List ℕ)) (number : ℕ) (after : List (List (List ℕ))) : Type 0 where
   pub kept : AreKept before after
   pub within : number < length after

@@ -6,7 +6,7 @@ use Rattle.aa_text_expansion.specs.Joining.{cut_off}
 abbrev pub list_at : List (List (List ℕ)) → ℕ → List (List ℕ)
 list_at lists number = slice_index_or lists number []
 
--- no list has another number or other texts now
+-- the lists before have the numbers and texts that they had
 pub record AreKept (before after : List (List (List ℕ))) : Type 0 where
   pub as_many : length before ≤ length after
   pub same : (number : ℕ) → number < length before → list_at after number ≡ list_at before number

@@ -13,6 +13,6 @@ is_missing test Unclosed = true
 abbrev pub has_missing : (List ℕ → Bool) → List ℕ → Bool
 has_missing test text = list_any (is_missing test) (parts text)
 
--- one of some words has
+-- one of some words has a missing name, or one that isn't closed
 abbrev pub have_missing : (List ℕ → Bool) → List (List ℕ) → Bool
 have_missing test words = list_any (has_missing test) words

@@ -1,4 +1,4 @@
--- Parts: what a text with names of variables in it is made of (apparmor.d(5), "Variables"; see docs/policy.md, "Variables").
+-- Parts: what a text with names of variables in it consists of (apparmor.d(5), "Variables"; see docs/policy.md, "Variables").
 use Rattle.std.specs.Prelude.{ℕ, ◌==◌, ◌&&◌, if◌then◌else◌, List, [], ◌∷◌, ◌++◌, Option, None, Some}
 use Rattle.aa_bytes.specs.Bytes.{at_sign, backslash, closing_brace, opening_brace}
 
@@ -8,8 +8,8 @@ pub data Part : Type 0 where
   Name : (name : List ℕ) → Part
   Unclosed : Part
 
--- The parts of a text, behind as much of a name if it stands within one. `@{` begins a name and the next `}` ends it; outside names a
--- backslash takes the byte behind it along.
+-- The parts of a text, from outside a name, or from within one of which this was read. `@{` begins a name and the next `}` ends it; outside names a
+-- backslash belongs to the byte after it.
 abbrev pub parts_behind : Option (List ℕ) → List ℕ → List Part
 parts_behind None [] = []
 parts_behind (Some name) [] = Unclosed ∷ []

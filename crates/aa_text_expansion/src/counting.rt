@@ -1,4 +1,4 @@
-//! How many choices of values texts have, where it is known how many values each name has.
+//! How many choices of values texts have, where the number of values of each name is known.
 
 ghost use Rattle.std.specs.Prelude.{◌≡◌, ℕ, List};
 ghost use Rattle.aa_text_expansion.specs.Choices.{choice_count};
@@ -8,12 +8,12 @@ ghost use Rattle.aa_text_expansion.specs.code.TextParts.{parts_of};
 use crate::parts::{TextPart, first_part};
 use aa_bytes::Sequence;
 
-/// No count goes on behind this one.
+/// Counts stop at this number.
 pub const MOST_COUNTED: usize = 16_385;
 
-/// Counts of the values that names have.
+/// Numbers of values by name.
 pub trait Counts {
-    // They are a function of names.
+    // The number is a function of the name.
     ghost counts: { Self → List ℕ → ℕ };
 
     /// How many values a name has.
@@ -21,7 +21,7 @@ pub trait Counts {
         ensures { result ≡ counts self.now name.now };
 }
 
-// How many choices a part of a text has.
+// How many choices of values a part of a text has.
 fn count_part<C: Counts>(counts: &C, part: TextPart<'_>) -> usize
     ensures { result ≡ choice_count (C.counts counts.now) (parts_of part.entry) }
 {
@@ -32,11 +32,11 @@ fn count_part<C: Counts>(counts: &C, part: TextPart<'_>) -> usize
     }
 }
 
-/// How many choices of values for its names a text has, where that is less than 16,385, and else 16,385. One that doesn't close a name has
-/// none. It takes no memory.
+/// How many choices of values for its names a text has, where that is less than 16,385, and else 16,385. A text that doesn't close a name has none.
+/// It takes no memory.
 pub fn count_text<C: Counts>(counts: &C, text: &[u8]) -> usize
     ensures value { result ≡ counted (C.counts counts.now) text.now }
-    // Where the counts are those of values, as far as they are counted, so is what they give.
+    // Where the numbers are those of values, up to 16,385, the result is that of choices, up to 16,385.
     ensures right { CountsChoices (C.counts counts.now) text.now result }
 {
     let mut so_far: usize = 1;
@@ -49,7 +49,7 @@ pub fn count_text<C: Counts>(counts: &C, text: &[u8]) -> usize
     so_far
 }
 
-/// How many choices words have together, where that is less than 16,385, and else 16,385. It takes no memory.
+/// How many choices of values words have together, where that is less than 16,385, and else 16,385. It takes no memory.
 pub fn count_words<C: Counts>(counts: &C, words: &[Sequence<u8>]) -> usize
     ensures value { result ≡ counted_words (C.counts counts.now) words.now }
     ensures right { CountsChoicesWithin (C.counts counts.now) words.now result }

@@ -1,4 +1,4 @@
-//! Texts in whose names' places values are put: one for each choice of a value for each name.
+//! Texts whose names are replaced by values: one for each choice of a value for each name.
 
 ghost use Rattle.std.specs.Prelude.{◌≡◌, ◌<◌, ◌++◌, ℕ, List, length, Option, IfOk};
 ghost use Rattle.aa_text_expansion.specs.Choices.{choices, choices_within};
@@ -11,17 +11,17 @@ use crate::parts::{TextPart, first_part};
 use aa_bytes::Sequence;
 use std::alloc::AllocError;
 
-/// Values of names, as numbers of lists.
+/// Lists of values by name.
 pub trait Values {
-    // They are a function of names.
+    // The list is a function of the name.
     ghost numbers: { Self → List ℕ → Option ℕ };
 
-    /// The number of the list of a name's values, if it has one.
+    /// The number of the list of a name's values, or `None` where it has none.
     fn list_of(&self, name: &[u8]) -> Option<usize>
         ensures { result ≡ numbers self.now name.now };
 }
 
-// The list of the choices of a part.
+// The list of the choices of a part of a text.
 fn expand_part<V: Values>(
     lists: &mut Lists,
     values: &V,
@@ -40,8 +40,8 @@ fn expand_part<V: Values>(
     }
 }
 
-/// The number of a list of the text with each choice of values in its names' places, the first name changing slowest. One that doesn't close a name,
-/// or has a name without a list, has no choice.
+/// Makes a list of the text with each choice of values for its names, the first name changing slowest, and returns its number. A text that doesn't
+/// close a name, or has a name without a list, has no choice.
 ///
 /// # Errors
 ///
@@ -64,7 +64,7 @@ pub fn expand_text<V: Values>(
     Ok(so_far)
 }
 
-// The list of the texts of a list, and behind them the choices of words.
+// The list of the texts of a list, followed by those of the choices of words.
 fn expand_behind<V: Values>(
     lists: &mut Lists,
     values: &V,
@@ -85,7 +85,7 @@ fn expand_behind<V: Values>(
     Ok(so_far)
 }
 
-/// The same of words, and of more words behind them, one list behind the other.
+/// Makes a list of the texts of all choices of some words, followed by those of more words, and returns its number.
 ///
 /// # Errors
 ///

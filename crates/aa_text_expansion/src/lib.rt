@@ -1,4 +1,5 @@
-//! What a text with names of variables in it is made of, and lists of texts that are put together. It doesn't know variables.
+//! Texts with names of variables in them: their parts, how many choices of values they have, and lists of the texts that these choices make. It
+//! doesn't know variables: callers pass the values, or their number, for each name.
 #![tactic(auto)]
 
 mod counting;

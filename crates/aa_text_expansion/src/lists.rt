@@ -1,4 +1,4 @@
-//! The lists.
+//! Lists of texts that are made of other lists, by their numbers.
 
 ghost use Rattle.std.specs.Prelude.{◌≡◌, ◌<◌, ◌≤◌, ◌++◌, ◌∷◌, ◌&&◌, true, [], List, length, IfOk, IfSome, OnErr, option_map, slice_get};
 ghost use Rattle.aa_text_expansion.specs.Joining.{cut_off, joined, most_kept, texts_of};
@@ -11,16 +11,16 @@ use aa_bytes::Sequence;
 use std::alloc::{AllocError, Global};
 use std::marker::Model;
 
-// How a list of texts is made of earlier ones, by their numbers.
+// How a list of texts is made of earlier ones.
 #[derive(Drop)]
 pub(crate) enum Made {
     // No text.
     Nothing,
     // One text.
     Text(Sequence<u8>),
-    // Each text of a list with each of another behind it, the first text with all of the others first.
+    // Each text of the first list followed by each of the second, all of those with the first text of the first list first.
     Joined(usize, usize),
-    // The texts of a list, and those of another behind them.
+    // The texts of a list, followed by those of another.
     Both(usize, usize),
 }
 
@@ -28,15 +28,15 @@ pub(crate) enum Made {
 #[derive(Drop)]
 pub(crate) struct Node {
     pub(crate) made: Made,
-    // There is one text.
+    // Whether there is exactly one text.
     pub(crate) single: bool,
-    // Each text has so many bytes at least.
+    // Each text has at least so many bytes.
     pub(crate) least: usize,
 }
 
 /// Lists of texts, each of which has a number: how many were made before it.
 ///
-/// A list that is made of others doesn't hold their texts. It takes some memory, however many texts it has.
+/// A list that is made of others doesn't hold their texts: it takes a few words of memory, however many texts it has.
 #[derive(Drop)]
 pub struct Lists {
     nodes: Vec<Node>,
@@ -60,7 +60,7 @@ pub(crate) fn node_at(nodes: &[Node], number: usize) -> Option<&Node>
     nodes.get(number)
 }
 
-// Puts a list behind the others. Its number is answered.
+// Appends a list, and returns its number.
 fn push(nodes: &mut Vec<Node>, node: Node) -> Result<usize, AllocError>
     requires right { AreRight nodes.old.items }
     requires node { IsRight (listed nodes.old.items) node }
@@ -75,7 +75,7 @@ fn push(nodes: &mut Vec<Node>, node: Node) -> Result<usize, AllocError>
     Ok(number)
 }
 
-// Whether a list is made of one text without bytes.
+// Whether a list is made as the one empty text.
 fn is_empty_text(node: &Node) -> bool
     ensures { result ≡ is_empty_text node.now.made }
 {
@@ -85,14 +85,14 @@ fn is_empty_text(node: &Node) -> bool
     }
 }
 
-// Whether a list is made of no text.
+// Whether a list is made as no text.
 fn is_nothing(node: &Node) -> bool
     ensures { result ≡ is_nothing node.now.made }
 {
     matches!(node.made, Made::Nothing)
 }
 
-// Whether the list of a number is made of no text.
+// Whether the list of a number is made as no text.
 fn has_nothing(nodes: &[Node], number: usize) -> bool
     requires { AreRight nodes.now }
     ensures { result ≡ true → list_at (lists_of nodes.now) number ≡ [] }
@@ -103,15 +103,15 @@ fn has_nothing(nodes: &[Node], number: usize) -> bool
     }
 }
 
-// Whether nothing is kept of one text behind those of a list, all of which are full.
+// Whether nothing would be kept of the second list's one text after any text of the first, all of which are full.
 fn has_no_room(first: &Node, second: &Node) -> bool
     ensures { result ≡ true → (most_kept ≤ first.now.least) × (second.now.single ≡ true) }
 {
     first.least >= MOST_KEPT && second.single
 }
 
-// The number of a list that two lists make where they are joined, if there is one already: where one of them is the empty text, or where
-// nothing of the second is kept behind the first.
+// The number of a list that has the joined texts of two lists already: where one of them is the empty text, or where nothing of the second is kept
+// after the first.
 fn joined_already(nodes: &[Node], first: usize, second: usize) -> Option<usize>
     requires { AreRight nodes.now }
     ensures { IfSome result (λ number. IsJoined (lists_of nodes.now) first second number) }
@@ -137,7 +137,7 @@ fn are_single(first: &Node, second: &Node) -> bool
     first.single && second.single
 }
 
-// What is known of two lists that are joined.
+// The node of two lists that are joined.
 fn joined_node(nodes: &[Node], first: usize, second: usize) -> Node
     requires { AreRight nodes.now }
     ensures right { IsRight (listed nodes.now) result }
@@ -156,7 +156,7 @@ fn joined_node(nodes: &[Node], first: usize, second: usize) -> Node
     }
 }
 
-// What is known of no texts.
+// The node of no texts.
 fn nothing() -> Node
     ensures { (before : List Listed) → IsRight before result × ((of_node before result).texts ≡ []) }
 {
@@ -167,7 +167,7 @@ fn nothing() -> Node
     }
 }
 
-// What is known of the texts of two lists, one behind the other.
+// The node of the texts of a list followed by those of another.
 fn both_node(nodes: &[Node], first: usize, second: usize) -> Node
     requires right { AreRight nodes.now }
     requires first { first < length nodes.now }
@@ -183,7 +183,7 @@ fn both_node(nodes: &[Node], first: usize, second: usize) -> Node
 }
 
 impl Lists {
-    /// No lists, on an allocator from which each later one takes its memory.
+    /// No lists, with an allocator from which each later one takes memory.
     pub fn new(alloc: Global) -> Lists
         ensures { result ≡ [] }
     {
@@ -192,11 +192,11 @@ impl Lists {
         }
     }
 
-    /// A list of no texts: its number.
+    /// Makes a list of no texts, and returns its number.
     ///
     /// # Errors
     ///
-    /// Memory ran out. The lists are then as they were.
+    /// Memory ran out. The lists are then unchanged.
     pub fn nothing(&mut self) -> Result<usize, AllocError>
         ensures made { IfOk result (λ number. IsMade self.old number [] self.new) }
         ensures unchanged { OnErr result (self.new ≡ self.old) }
@@ -204,11 +204,11 @@ impl Lists {
         push(&mut self.nodes, nothing())
     }
 
-    /// A list of one text: its number.
+    /// Makes a list of one text, which is copied, and returns its number.
     ///
     /// # Errors
     ///
-    /// Memory ran out. The lists are then as they were.
+    /// Memory ran out. The lists are then unchanged.
     pub fn text(&mut self, text: &[u8]) -> Result<usize, AllocError>
         ensures made { IfOk result (λ number. IsMade self.old number (text.now ∷ []) self.new) }
         ensures unchanged { OnErr result (self.new ≡ self.old) }
@@ -222,12 +222,12 @@ impl Lists {
         push(&mut self.nodes, node)
     }
 
-    /// Each text of a list with each of another behind it, by their numbers, the first text with all of the others first: the number of that
-    /// list. A number that no list has stands for no texts.
+    /// Makes a list of each text of a list followed by each of another, all of those with the first text of the first list first, and returns its
+    /// number. The two are given by their numbers; a number that no list has stands for no texts.
     ///
     /// # Errors
     ///
-    /// Memory ran out. The lists are then as they were.
+    /// Memory ran out. The lists are then unchanged.
     pub fn joined(&mut self, first: usize, second: usize) -> Result<usize, AllocError>
         ensures made { IfOk result (λ number. IsMade self.old number (joined (list_at self.old first) (list_at self.old second)) self.new) }
         ensures unchanged { OnErr result (self.new ≡ self.old) }
@@ -239,11 +239,11 @@ impl Lists {
         push(&mut self.nodes, node)
     }
 
-    /// The texts of a list, and those of another behind them, by their numbers: the number of that list.
+    /// Makes a list of the texts of a list followed by those of another, both given by their numbers, and returns its number.
     ///
     /// # Errors
     ///
-    /// Memory ran out. The lists are then as they were.
+    /// Memory ran out. The lists are then unchanged.
     pub fn both(&mut self, first: usize, second: usize) -> Result<usize, AllocError>
         requires first { first < length self.old }
         requires second { second < length self.old }
@@ -257,7 +257,7 @@ impl Lists {
         push(&mut self.nodes, node)
     }
 
-    /// The texts of a list by its number, each cut off behind its first 4,097 bytes; none where no list has the number.
+    /// The texts of the list of a number, each cut off after its first 4,097 bytes; none where no list has the number. It allocates them all.
     ///
     /// # Errors
     ///

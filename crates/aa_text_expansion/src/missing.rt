@@ -10,7 +10,7 @@ ghost use Rattle.aa_text_expansion.specs.code.TextParts.{parts_of};
 use crate::parts::{TextPart, first_part};
 use aa_bytes::Sequence;
 
-// Whether a part of a text is a missing name, or one that isn't closed.
+// Whether a part of a text is a missing name, or a name that isn't closed.
 fn is_missing<F: Fn(&[u8]) -> bool>(part: TextPart<'_>, missing: &F) -> bool
     requires { F.IsAlwaysCallable missing.now }
     ensures { (test : List ℕ → Bool) → Answers (FnReturnsAt F.Fn missing.now) test → result ≡ list_any (is_missing test) (parts_of part.entry) }
@@ -22,7 +22,7 @@ fn is_missing<F: Fn(&[u8]) -> bool>(part: TextPart<'_>, missing: &F) -> bool
     }
 }
 
-// Whether a text has one.
+// Whether a text has a missing name, or doesn't close one.
 fn misses<F: Fn(&[u8]) -> bool>(text: &[u8], missing: &F) -> bool
     requires { F.IsAlwaysCallable missing.now }
     ensures { (test : List ℕ → Bool) → Answers (FnReturnsAt F.Fn missing.now) test → result ≡ has_missing test text.now }
@@ -37,16 +37,16 @@ fn misses<F: Fn(&[u8]) -> bool>(text: &[u8], missing: &F) -> bool
     false
 }
 
-/// Whether a text has a name that is missing, by a test of names, or doesn't close one. It takes no memory but what the test does.
+/// Whether a text has a name for which `missing` is true, or doesn't close one. It takes no memory but what the test does.
 pub fn has_missing<F: Fn(&[u8]) -> bool>(text: &[u8], missing: F) -> bool
     requires { F.IsAlwaysCallable missing }
-    // For each test in definitions that the call answers.
+    // For each test in definitions that `missing` computes.
     ensures { (test : List ℕ → Bool) → Answers (FnReturnsAt F.Fn missing) test → result ≡ has_missing test text.now }
 {
     misses(text, &missing)
 }
 
-/// Whether one of some words does. It takes no memory but what the test does.
+/// Whether one of some words has a name for which `missing` is true, or doesn't close one. It takes no memory but what the test does.
 pub fn have_missing<F: Fn(&[u8]) -> bool>(words: &[Sequence<u8>], missing: F) -> bool
     requires { F.IsAlwaysCallable missing }
     ensures { (test : List ℕ → Bool) → Answers (FnReturnsAt F.Fn missing) test → result ≡ have_missing test words.now }

@@ -1,4 +1,4 @@
-//! The numbers of the names in texts, gathered in a set.
+//! The numbers of the names in texts, collected in a set.
 
 ghost use Rattle.std.specs.Prelude.{OnOk};
 ghost use Rattle.std.specs.Fn.{FnReturnsAt};
@@ -10,7 +10,7 @@ use aa_bytes::Sequence;
 use indexmap::IndexSet;
 use std::alloc::AllocError;
 
-// Gathers the number of the name that a part of a text is, if it has one.
+// Adds the number of the name that a part of a text is, if it has one, to a set.
 fn gather_part<F: Fn(&[u8]) -> Option<usize>>(
     part: TextPart<'_>,
     number: &F,
@@ -30,7 +30,7 @@ fn gather_part<F: Fn(&[u8]) -> Option<usize>>(
     Ok(())
 }
 
-// Gathers the numbers of the names in a text.
+// Adds the numbers of the names in a text to a set.
 fn gather<F: Fn(&[u8]) -> Option<usize>>(
     text: &[u8],
     number: &F,
@@ -47,28 +47,28 @@ fn gather<F: Fn(&[u8]) -> Option<usize>>(
     Ok(())
 }
 
-/// Gathers the numbers of the names in a text, as far as they have some, behind those that are gathered.
+/// Adds the numbers of the names in a text, as far as they have one, to a set, after those that are in it.
 ///
 /// # Errors
 ///
-/// Memory ran out. Some of the numbers may then be gathered.
+/// Memory ran out. Some of the numbers may then be added.
 pub fn gather_numbers<F: Fn(&[u8]) -> Option<usize>>(
     text: &[u8],
     number: F,
     gathered: &mut IndexSet<usize>,
 ) -> Result<(), AllocError>
     requires { F.IsAlwaysCallable number }
-    // For each function in definitions that the call answers.
+    // For each function in definitions that `number` computes.
     ensures { OnOk result (Gathers (FnReturnsAt F.Fn number) (λ n. numbers_in n text.now) gathered.old.keys gathered.new.keys) }
 {
     gather(text, &number, gathered)
 }
 
-/// The same of the names in some words.
+/// Adds the numbers of the names in some words, as far as they have one, to a set, after those that are in it.
 ///
 /// # Errors
 ///
-/// Memory ran out. Some of the numbers may then be gathered.
+/// Memory ran out. Some of the numbers may then be added.
 pub fn gather_numbers_within<F: Fn(&[u8]) -> Option<usize>>(
     words: &[Sequence<u8>],
     number: F,

@@ -16,11 +16,11 @@ pub enum TextPart<'a> {
     Text(&'a [u8]),
     /// The name of a variable, for whose values it stands.
     Name(&'a [u8]),
-    /// The name of a variable that isn't closed. It has all of the text.
+    /// The name of a variable that isn't closed: it reaches to the end of the text.
     Unclosed,
 }
 
-// How many bytes of a text stand before its first `}`.
+// How many bytes a text has before its first `}`.
 fn name_size(text: &[u8]) -> usize
     ensures value { result ≡ prefix_len (λ b. not (b == closing_brace)) text.now }
     ensures within { result ≤ length text.now }
@@ -28,7 +28,7 @@ fn name_size(text: &[u8]) -> usize
     length_while(text, |byte| byte != b'}')
 }
 
-// What a text is within a name, and what follows it.
+// What a text is after the `@{` of a name, and what follows it.
 fn read_name(text: &[u8]) -> (TextPart<'_>, &[u8])
     ensures value { parts_of result.0 ++ parts result.1.now ≡ parts_behind (Some []) text.now }
     ensures within { length result.1.now ≤ length text.now }
@@ -52,7 +52,7 @@ fn begins_name(text: &[u8]) -> bool
     }
 }
 
-// How many bytes stand together at the front of a text that begins with no name.
+// How many bytes at the front of a text, which begins with no name, belong together: two after a backslash.
 fn taken(text: &[u8]) -> usize
     requires { 0 < length text.now }
     ensures value { result ≡ taken text.now }
@@ -65,7 +65,7 @@ fn taken(text: &[u8]) -> usize
     }
 }
 
-// How many bytes of a text stand for themselves before its first name, step by step.
+// How many bytes a text has before its first name, counted step by step.
 fn stepped_size(text: &[u8]) -> usize
     ensures value { result ≡ plain_size text.now }
     ensures within { result ≤ length text.now }
@@ -80,7 +80,7 @@ fn stepped_size(text: &[u8]) -> usize
     size
 }
 
-// The same, at once where there is no `@`, with which each name begins: most texts have none.
+// How many bytes a text has before its first name: all of them where it has no `@`, with which each name begins, as most texts.
 fn plain_size(text: &[u8]) -> usize
     ensures value { result ≡ plain_size text.now }
     ensures within { result ≤ length text.now }
@@ -91,8 +91,8 @@ fn plain_size(text: &[u8]) -> usize
     }
 }
 
-/// What a text begins with and what follows it, or nothing where it is empty. Bytes that stand for themselves are taken up to the next
-/// name.
+/// What a text begins with and what follows it, or `None` where it is empty. Bytes that stand for themselves are one part up to the next name. It
+/// takes no memory.
 pub fn first_part(text: &[u8]) -> Option<(TextPart<'_>, &[u8])>
     ensures value { MatchOption result (text.now ≡ []) (λ read. parts_of read.0 ++ parts read.1.now ≡ parts text.now) }
     ensures shorter { IfSome result (λ read. length read.1.now < length text.now) }

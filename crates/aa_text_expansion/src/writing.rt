@@ -1,4 +1,4 @@
-//! Lists of texts, written out: texts are begun, go on, and are done, those that stand first in the list first.
+//! Lists of texts, written out: texts are begun, continued and finished, in the order of the list.
 
 ghost use Rattle.std.specs.Prelude.{◌≡◌, ◌<◌, ◌≤◌, ◌+◌, ◌++◌, true, List, length, IfOk, MatchOption, OnOk};
 ghost use Rattle.aa_text_expansion.specs.Joining.{cut_off, most_kept, texts_of};
@@ -11,36 +11,35 @@ use crate::joining::{MOST_KEPT, put_behind};
 use crate::lists::{Made, Node, node_at};
 use std::alloc::{AllocError, Global};
 
-// What goes behind a text: the texts of a list, and behind these a rest.
+// What is to be appended to a text: the texts of a list, and then a rest.
 #[derive(Clone, Copy)]
 pub(crate) struct Cell {
     list: usize,
     rest: usize,
 }
 
-// A text that was begun. The texts of a list go behind it, and behind these a rest: none for 0, and else that of a cell, by one more than how many
-// stand before that.
+// A text that is begun. The texts of a list are to be appended to it, and then a rest: none for 0, else the cell at `rest - 1`.
 #[derive(Drop)]
 pub(crate) struct Begun {
     text: Vec<u8>,
     list: usize,
     rest: usize,
-    // How many cells there were when it was begun. It needs no others.
+    // How many cells there were when it was begun. It needs no later ones.
     height: usize,
 }
 
-// What is begun and what is done.
+// Texts that are begun and texts that are finished.
 #[derive(Drop)]
 pub(crate) struct Writing {
     cells: Vec<Cell>,
-    // Texts that were begun. The last is gone on with first.
+    // Texts that are begun. The last one is continued first.
     waiting: Vec<Begun>,
-    // Texts that are done.
+    // Texts that are finished.
     done: Vec<Vec<u8>>,
 }
 
 impl Writing {
-    // The empty text is begun, behind which the texts of a list go.
+    // The empty text is begun, to which the texts of a list are to be appended.
     fn start(alloc: Global, list: usize) -> Result<Writing, AllocError>
         ensures { (lists : List Listed) → IfOk result (IsStarted lists list) }
     {
@@ -58,7 +57,7 @@ impl Writing {
         })
     }
 
-    // The text that was begun last, if there is one. Cells that no other text needs are gone but for those that it needs.
+    // Removes the text that was begun last, if there is one, and the cells that neither it nor another text needs.
     fn next(&mut self) -> Option<Begun>
         requires { IsStacked self.old }
         ensures { (lists : List Listed)
@@ -69,7 +68,7 @@ impl Writing {
         Some(begun)
     }
 
-    // A text waits to go on with the texts of a list and a rest.
+    // Adds a text that continues with the texts of a list and a rest.
     fn wait(&mut self, text: Vec<u8>, list: usize, rest: usize) -> Result<(), AllocError>
         requires stacked { IsStacked self.old }
         requires within { rest ≤ length self.old.cells.items }
@@ -88,7 +87,7 @@ impl Writing {
         Ok(())
     }
 
-    // A text is done.
+    // Finishes a text.
     fn finish(&mut self, text: Vec<u8>) -> Result<(), AllocError>
         requires { IsStacked self.old }
         ensures { (lists : List Listed) → OnOk result (Adds lists self.old (ends_of text the_end.texts) the_end.steps self.new) }
@@ -99,7 +98,7 @@ impl Writing {
         Ok(())
     }
 
-    // A text goes on with a rest, or is done where there is none.
+    // Continues a text with a rest, or finishes it where there is none.
     fn go_on(&mut self, text: Vec<u8>, rest: usize) -> Result<(), AllocError>
         requires stacked { IsStacked self.old }
         requires within { rest ≤ length self.old.cells.items }
@@ -117,7 +116,7 @@ impl Writing {
         Ok(())
     }
 
-    // A text goes on with the texts of a list, behind which those of another go, and a rest.
+    // Continues a text with the texts of a list, each followed by those of another and a rest.
     fn go_on_with(
         &mut self,
         text: Vec<u8>,
@@ -138,7 +137,7 @@ impl Writing {
         Ok(())
     }
 
-    // A text goes on with the texts of a list, and then with those of another, each with a rest.
+    // Continues a text with the texts of a list, and a copy of it with those of another, each with a rest.
     fn part(
         &mut self,
         alloc: Global,
@@ -163,14 +162,14 @@ impl Writing {
     }
 }
 
-// Whether nothing is kept of a list of one text behind a text.
+// Whether nothing would be kept of the one text of a list after a text.
 fn is_full(node: &Node, text: &[u8]) -> bool
     ensures { result ≡ true → (node.now.single ≡ true) × (most_kept ≤ length text.now) }
 {
     node.single && text.len() >= MOST_KEPT
 }
 
-// Goes on with a text by one step.
+// Continues a text by one step.
 fn step(
     alloc: Global,
     nodes: &[Node],
@@ -208,7 +207,7 @@ fn step(
     }
 }
 
-/// The texts of a list, each cut off.
+/// The texts of a list, each cut off after its first 4,097 bytes.
 ///
 /// # Errors
 ///

@@ -1,4 +1,4 @@
--- The files that are handed in: a list of names with their bytes, in the order in which they came (docs/commands.md).
+-- The files: a list of names with their bytes, in the order in which they were inserted (docs/commands.md).
 use Rattle.std.specs.Prelude.{ℕ, ◌≡◌, ◌+◌, ◌-◌, Bool, true, ◌==◌, ◌||◌, ◌&&◌, not, nat_lt, if◌then◌else◌, List, [], ◌∷◌, length, map, slice_index, slice_index_or, Option, None, Some, is_some, Vec, codes}
 use Rattle.std.specs.List.{list_any}
 use Rattle.std.specs.Str.{bytes_eq}
@@ -18,7 +18,7 @@ is_folder_name name = slice_index name (length name - 1) == slash
 abbrev pub has_control_byte : List ℕ → Bool
 has_control_byte name = list_any (λ b. nat_lt b space) name
 
--- No file: the name is empty, or it holds a control byte, or it declares a folder and yet there are bytes.
+-- A file that is refused: the name is empty, or it holds a control byte, or it declares a folder and yet there are bytes.
 abbrev pub is_bad_file : List ℕ → List ℕ → Bool
 is_bad_file name bytes = length name == 0 || has_control_byte name || (is_folder_name name && not (length bytes == 0))
 
@@ -36,12 +36,12 @@ abbrev pub have_names_of_their_own : List File → Bool
 have_names_of_their_own [] = true
 have_names_of_their_own (file ∷ files) = not (has_file files file.0) && have_names_of_their_own files
 
--- none of the files is one that can't be: each has a name, and a folder has no bytes
+-- none of the files is one that is refused: each has a name, and a folder has no bytes
 abbrev pub are_good : List File → Bool
 are_good [] = true
 are_good (file ∷ files) = not (is_bad_file file.0 file.1) && are_good files
 
--- what is true of all files that were taken
+-- what holds of all files that were inserted
 abbrev pub AreTaken : List File → Type 0
 AreTaken files = (have_names_of_their_own files ≡ true) × (are_good files ≡ true)
 
@@ -49,12 +49,12 @@ AreTaken files = (have_names_of_their_own files ≡ true) × (are_good files ≡
 abbrev pub bytes_of : List File → List ℕ → Option (List ℕ)
 bytes_of files name = if is_folder_name name then None else file_named files name
 
--- the place of a name among the files
+-- the index of a name among the files
 abbrev pub index_from : ℕ → List ℕ → List File → Option ℕ
 index_from at name [] = None
 index_from at name (file ∷ files) = if bytes_eq name file.0 then Some at else index_from (at + 1) name files
 
--- the place of a file, which is no folder, by its name
+-- the index of a file, which is no folder, by its name
 abbrev pub file_at : List File → List ℕ → Option ℕ
 file_at files name = if is_folder_name name then None else index_from 0 name files
 
@@ -64,7 +64,7 @@ name_at files file = (slice_index_or files file ([], [])).0
 abbrev pub bytes_at : List File → ℕ → List ℕ
 bytes_at files file = (slice_index_or files file ([], [])).1
 
--- files whose names and bytes stand in vectors, without the capacities
+-- files whose names and bytes are in vectors, without the capacities
 abbrev pub as_files : {A B : Type 0} → List (Vec ℕ A × Vec ℕ B) → List File
 as_files entries = map (λ e. (e.0.items, e.1.items)) entries
 

@@ -21,7 +21,7 @@ is_before (b ∷ bs) (d ∷ ds) = nat_lt b d || (b == d && is_before bs ds)
 abbrev pub comes_before : List File → ℕ → ℕ → Bool
 comes_before files one other = is_before (name_at files one) (name_at files other)
 
--- a file among others, which are in the order of their names
+-- a file inserted into others, which are in the order of their names
 abbrev pub in_order : List File → ℕ → List ℕ → List ℕ
 in_order files file [] = file ∷ []
 in_order files file (other ∷ others) = if comes_before files file other then file ∷ other ∷ others else other ∷ in_order files file others

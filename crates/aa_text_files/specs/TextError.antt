@@ -1,4 +1,4 @@
--- The refusals of a text: each one's number, name and words; and the texts of errors.
+-- The refusals of a text: the number, name and words of each; and the texts of errors.
 use Rattle.std.specs.Prelude.{ℕ, List, ◌++◌, codes, Option, None, Some}
 use Rattle.std.specs.Fmt.{decimal}
 use Rattle.aa_text_files.specs.declared.text_error.Place.{Place}
@@ -26,7 +26,7 @@ number_of refusal = (described refusal).0
 abbrev pub name_of : TextRefusal → List ℕ
 name_of refusal = (described refusal).1
 
--- what is wrong, in words for people
+-- what is wrong, in words for users
 abbrev pub words_of : TextRefusal → List ℕ
 words_of ZeroByte = codes "a file holds a zero byte"
 words_of OpenQuote = codes "a quote isn't closed in its line"
@@ -44,7 +44,7 @@ words_of Memory = codes "memory ran out"
 abbrev pub plain : TextRefusal → TextError
 plain refusal = record { refusal = refusal; place = None }
 
--- how an error's text tells a place: the file's number among the files, from 0 on, and the offset in bytes
+-- a place in an error's text: the file's index among the files, from 0 on, and the offset in bytes
 abbrev pub place_text : Place → List ℕ
 place_text place = codes "file " ++ decimal place.file ++ codes " at " ++ decimal place.at
 

@@ -1,3 +1,3 @@
--- What is about the code: how the members of a folder are gathered, and how many files came before that of a name.
+-- What is about the code: how the members of a folder are collected, and the index of each name.
 pub mod Gathered
 pub mod Places

@@ -1,4 +1,4 @@
-//! The files that a set of profiles is read from, handed in by name.
+//! The files from which a policy is read, by name.
 ghost use Rattle.std.specs.Prelude.{◌≡◌, ◌++◌, ◌∷◌, [], ◌↔◌, ◌&&◌, not, IsTrue, IsErrOf, OnOk, OnErr, length, option_map, slice_get};
 ghost use Rattle.aa_bytes.specs.NameMaps.{GivesNumber, HaveSameNumbers};
 ghost use Rattle.aa_text_files.specs.Files.{as_files, bytes_at, bytes_of, described, file_at, has_control_byte, has_file, is_bad_file, is_folder_name, name_at};
@@ -8,15 +8,15 @@ use std::alloc::{AllocError, Global};
 use std::marker::Model;
 use thiserror::Error;
 
-/// Named files in the order in which they came, as a list of pairs of a name and the file's bytes.
+/// Named files in the order in which they were inserted. Contracts see a list of pairs of a name and the file's bytes.
 ///
-/// A name is a text of bytes as the caller gives it, with no byte below the space, and no name comes twice.
-/// A name whose last byte is `/` declares a folder, which has no bytes.
+/// A name is the bytes that the caller gives, with no byte below the space, and no name comes twice. A name whose last byte is `/` declares a
+/// folder, which has no bytes.
 #[derive(Drop)]
 pub struct Files {
-    // In the order in which they came.
+    // In the order in which they were inserted.
     entries: Vec<(Vec<u8>, Vec<u8>)>,
-    // How many came before the file of a name.
+    // The index of the file of each name.
     places: NameMap,
 }
 
@@ -30,11 +30,11 @@ impl Model for Files {
 
     ghost view = { λ f. as_files f.entries.items };
 
-    // No name comes twice, and a folder has no bytes; with each name stands how many files came before it.
+    // No name comes twice, and a folder has no bytes; each name has the index of its file.
     ghost invariant = { λ f. AreTaken (as_files f.entries.items) × ArePlaces f.places (as_files f.entries.items) };
 }
 
-/// Why a file was not taken. Nothing of it is kept, and the files before it stay as they were.
+/// Why a file was not inserted. Nothing of it is kept, and the files are unchanged.
 #[derive(Clone, Copy, Debug, PartialEq, Eq, Error)]
 pub enum FilesError {
     /// The name is empty, holds a byte below the space, or declares a folder although there are bytes.
@@ -79,14 +79,14 @@ fn has_control(name: &[u8]) -> bool
     name.iter().any(|b| *b < b' ')
 }
 
-// Whether no file has this name and these bytes.
+// Whether a file of this name and these bytes is refused.
 fn is_bad(name: &[u8], bytes: &[u8]) -> bool
     ensures { result ≡ is_bad_file name.now bytes.now }
 {
     name.is_empty() || has_control(name) || (Files::is_folder(name) && !bytes.is_empty())
 }
 
-// Puts a file behind others, and notes how many came before it.
+// Appends a file, and keeps the index of its name.
 fn put(
     entries: &mut Vec<(Vec<u8>, Vec<u8>)>,
     places: &mut NameMap,
@@ -111,7 +111,7 @@ fn put(
 }
 
 impl Files {
-    /// No files, on an allocator from which each later file takes its memory.
+    /// No files, with an allocator from which each inserted file takes memory.
     pub fn new(alloc: Global) -> Files
         ensures { result ≡ [] }
     {
@@ -121,7 +121,7 @@ impl Files {
         }
     }
 
-    /// Whether a name declares a folder: its last byte is `/`.
+    /// Whether a name declares a folder: its last byte is `/`. It takes no memory; `O(1)`.
     pub fn is_folder(name: &[u8]) -> bool
         ensures { result ≡ is_folder_name name.now }
     {
@@ -131,11 +131,12 @@ impl Files {
         }
     }
 
-    /// Takes a file, after those that came before. A name whose last byte is `/` declares a folder, with no bytes.
+    /// Inserts a file after those that are there. A name whose last byte is `/` declares a folder, with no bytes. The name and the bytes are taken
+    /// over; the name is copied once more for look-ups. `O(log n)` comparisons of names for n files.
     ///
     /// # Errors
     ///
-    /// The first of these that applies. The files are then as they were, and the name and bytes are dropped.
+    /// The first of these that applies. The files are then unchanged, and the name and bytes are dropped.
     /// - `BadFile`: the name is empty, holds a byte below the space, or declares a folder although there are bytes.
     /// - `Twice`: a file or folder of that name is there.
     /// - `Memory`: memory ran out.
@@ -157,7 +158,8 @@ impl Files {
         }
     }
 
-    /// The bytes of the file of that name, or nothing where no file has it or it declares a folder.
+    /// The bytes of the file of that name, or `None` where no file has it or it declares a folder. It takes no memory; `O(log n)` comparisons of
+    /// names for n files.
     pub fn bytes(&self, name: &[u8]) -> Option<&[u8]>
         ensures { option_map (λ b. b.now) result ≡ bytes_of self.now name.now }
     {
@@ -170,21 +172,22 @@ impl Files {
         }
     }
 
-    /// How many files and folders there are.
+    /// How many files and folders there are. It takes no memory; `O(1)`.
     pub fn len(&self) -> usize
         ensures { result ≡ length self.now }
     {
         self.entries.len()
     }
 
-    /// Whether a file or folder of that name is there.
+    /// Whether a file or folder of that name is there. It takes no memory; `O(log n)` comparisons of names for n files.
     pub fn has(&self, name: &[u8]) -> bool
         ensures { result ≡ has_file self.now name.now }
     {
         self.places.get(name).is_some()
     }
 
-    /// How many files and folders came before the file of that name, or nothing where no file has it or it declares a folder.
+    /// The index of the file of that name, in the order of insertion, or `None` where no file has it or it declares a folder. It takes no memory;
+    /// `O(log n)` comparisons of names for n files.
     pub fn position(&self, name: &[u8]) -> Option<usize>
         ensures { result ≡ file_at self.now name.now }
     {
@@ -194,7 +197,7 @@ impl Files {
         None
     }
 
-    /// The bytes of the file that came after `at` others: none where it is a folder, or where there are no more than that.
+    /// The bytes of the file at an index: none where it is a folder, or where no file has this index. It takes no memory; `O(1)`.
     pub fn bytes_at(&self, at: usize) -> &[u8]
         ensures { result.now ≡ bytes_at self.now at }
     {
@@ -204,7 +207,7 @@ impl Files {
         }
     }
 
-    /// The name of the file or folder that came after `at` others: an empty one where there are no more than that.
+    /// The name of the file or folder at an index: an empty one where none has this index. It takes no memory; `O(1)`.
     pub fn name_at(&self, at: usize) -> &[u8]
         ensures { result.now ≡ name_at self.now at }
     {
@@ -214,7 +217,7 @@ impl Files {
         }
     }
 
-    /// The name of the file or folder that came after `file` others, or nothing where there are no more than that.
+    /// The name of the file or folder at an index, or `None` where none has this index. It takes no memory; `O(1)`.
     pub fn name(&self, file: usize) -> Option<&[u8]>
         ensures { option_map (λ n. n.now) result ≡ option_map (λ f. f.0) (slice_get self.now file) }
     {

@@ -32,7 +32,7 @@ fn push_member(
     Ok(())
 }
 
-// Puts files in the order of their names. Those of one name stay as they stood.
+// Sorts files by their names; files of one name keep their order.
 fn sort_by_name(files: &Files, found: &mut Vec<usize>) -> Result<(), AllocError>
     ensures sorted { OnOk result (IsSortedBy (comes_before files.now) found.new.items) }
     ensures stable { OnOk result (IsStableBy (comes_before files.now) found.old.items found.new.items) }
@@ -41,7 +41,7 @@ fn sort_by_name(files: &Files, found: &mut Vec<usize>) -> Result<(), AllocError>
     Ok(())
 }
 
-/// The places of the direct members of a folder, in the order of their names.
+/// The indices of the direct members of a folder, sorted by their names.
 ///
 /// # Errors
 ///

@@ -1,4 +1,5 @@
-//! The files that a set of profiles is read from, handed in by name; places in them, and what is refused of their text.
+//! The files from which a policy is read, by name, in memory; places in them; and the errors of their text. Nothing here opens a file: a caller
+//! inserts names and bytes.
 #![tactic(auto)]
 
 mod files;

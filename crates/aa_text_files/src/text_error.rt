@@ -1,4 +1,4 @@
-//! Why the text of a file was refused, and where.
+//! Why the text of a file is refused, and where.
 
 ghost use Rattle.std.specs.Prelude.{◌≡◌, Some};
 ghost use Rattle.std.specs.Fmt.{DisplaysOnOk};
@@ -9,16 +9,16 @@ use std::alloc::{AllocError, AllocFailed};
 use std::error::Error;
 use std::fmt::{self, Display, Formatter, Write};
 
-/// A place in the files that were handed in.
+/// A place in one of the files.
 #[derive(Clone, Copy, Debug, PartialEq, Eq)]
 pub struct Place {
     /// The index of the file among the files.
     pub file: usize,
-    /// How many bytes of the file stand before the place.
+    /// The offset of the place in the file, in bytes.
     pub at: usize,
 }
 
-// The file by its index, since a place doesn't know its name.
+// As `file N at OFFSET`: a place doesn't know the name of its file.
 impl Display for Place {
     ghost use Rattle.std.specs.Prelude.{Some};
     ghost use Rattle.aa_text_files.specs.TextError.{place_text};
@@ -32,18 +32,18 @@ impl Display for Place {
     }
 }
 
-/// Why the text of a file was refused.
+/// Why the text of a file is refused.
 #[derive(Clone, Copy, Debug, PartialEq, Eq)]
 pub enum TextRefusal {
     /// A file holds a zero byte.
     ZeroByte,
     /// A quote isn't closed in its line.
     OpenQuote,
-    /// The name of an Include isn't closed in its line, or a blank or the text's end stands within the braces of a word.
+    /// The name of an Include isn't closed in its line, or a blank or the text's end comes within the braces of a word.
     OpenOther,
-    /// No file of the name was handed in.
+    /// No file of the name is among the files.
     NoFile,
-    /// More than 16 includes stand one in another.
+    /// More than 16 includes are nested in one another.
     IncludeDepth,
     /// The files that are entered have more than 16,777,216 bytes together.
     TextTooBig,
@@ -59,7 +59,7 @@ pub enum TextRefusal {
     Memory,
 }
 
-// In words, as `words` has them.
+// In words, as `words` returns them.
 impl Display for TextRefusal {
     ghost use Rattle.std.specs.Prelude.{Some};
     ghost use Rattle.aa_text_files.specs.TextError.{words_of};
@@ -71,16 +71,16 @@ impl Display for TextRefusal {
     }
 }
 
-/// Why the text of a file was refused, and where.
+/// Why the text of a file is refused, and where.
 #[derive(Clone, Copy, Debug, PartialEq, Eq)]
 pub struct TextError {
     /// What is wrong.
     pub refusal: TextRefusal,
-    /// Where it is, if that is known.
+    /// The place of the fault, if it is known.
     pub place: Option<Place>,
 }
 
-/// A refusal whose place isn't known, or known to the caller alone.
+/// An error whose place isn't known, or known to the caller alone.
 pub fn plain(refusal: TextRefusal) -> TextError
     ensures { result ≡ plain refusal }
 {
@@ -129,7 +129,7 @@ impl TextRefusal {
         }
     }
 
-    /// What is wrong, in words for people.
+    /// What is wrong, in words for users.
     pub fn words(self) -> &'static str
         ensures { result.now ≡ words_of self }
     {
@@ -150,7 +150,7 @@ impl TextRefusal {
 }
 
 impl TextError {
-    /// The number of its refusal.
+    /// The number of its refusal: 20 to 29, or 99.
     pub fn number(self) -> u8
         ensures { result ≡ number_of self.refusal }
     {
@@ -165,7 +165,7 @@ impl TextError {
     }
 }
 
-/// Writes the text of an error: the number and the name of its refusal, and its place, if it has one.
+/// Writes an error as text: its number and name, and its place, if it has one.
 pub fn write_error<W: Write>(
     f: &mut Formatter<W>,
     number: u8,

@@ -10,8 +10,8 @@ use Rattle.aa_text_tokens.specs.declared.cut.CutRefusal.TheVariants.{OpenQuote, 
 use Rattle.aa_text_tokens.specs.declared.cut.TokenKind.{TokenKind}
 use Rattle.aa_text_tokens.specs.declared.cut.TokenKind.TheVariants.{Include, Assign, Value, Quoted, Word, Comma, OpenBrace, CloseBrace}
 
--- What stands at a place where a token may begin: a token with its own text, or a comment, each with how many bytes its span has, or neither.
--- What follows stands behind the span.
+-- What a text has at an offset where a token may begin: a token with its own text, or a comment, each with how many bytes its span has, or neither.
+-- What follows comes after the span.
 pub data Piece : Type 0 where
   Token : (kind : TokenKind) (text : List ℕ) (size : ℕ) → Piece
   Comment : (size : ℕ) → Piece
@@ -35,7 +35,7 @@ include_word text =
 abbrev pub opens_name : List ℕ → Bool
 opens_name text = begins (λ b. b == smaller || b == quote) text
 
--- Behind `if`: spaces or tabs, `exists`, and spaces or tabs again.
+-- After `if`: spaces or tabs, `exists`, and spaces or tabs again.
 abbrev pub opening_if_exists : ℕ → List ℕ → Option Opening
 opening_if_exists at text =
     let before = spaces (drop at text) in
@@ -45,7 +45,7 @@ opening_if_exists at text =
     then Some (record { at = word + 6 + after; if_exists = true })
     else None
 
--- Behind the word of an Include: spaces or tabs, and maybe `if exists`.
+-- After the word of an Include: spaces or tabs, and maybe `if exists`.
 abbrev pub opening_behind : List ℕ → ℕ → Option Opening
 opening_behind text word =
     let at = word + spaces (drop word text) in
@@ -60,11 +60,11 @@ opening text = option_and_then (opening_behind text) (include_word text)
 abbrev pub closing : ℕ → ℕ
 closing b = if b == smaller then greater else b
 
--- what is told where a name's line ends before it is closed
+-- the fault of a name whose line ends before it is closed
 abbrev pub unclosed : ℕ → CutRefusal
 unclosed b = if b == smaller then OpenOther else OpenQuote
 
--- an Include, from where its name opens: it runs to the next byte that closes the name, in its line
+-- an Include, from where its name begins: it reaches to the next byte that closes the name, in its line
 abbrev pub include_from : List ℕ → Opening → Piece
 include_from text o =
     let first = slice_index_or text o.at 0 in
@@ -72,7 +72,7 @@ include_from text o =
     let size = prefix_len (λ b. not (b == closing first) && not (b == line_feed)) behind in
     if begins (λ b. b == closing first) (drop size behind) then Token (Include o.if_exists) (take size behind) (o.at + size + 2) else Fault (unclosed first)
 
--- a comment runs to the end of its line
+-- a comment reaches to the end of its line
 abbrev pub comment : List ℕ → Piece
 comment text = Comment (prefix_len (λ b. not (b == line_feed)) text)
 
@@ -88,7 +88,7 @@ assign text =
     if begins_with (codes "+=") (drop sign text) then Some (Token (Assign true) name (sign + 2)) else None)
     else None
 
--- how many bytes stand before the quote that closes a text, in its line; a backslash takes the byte behind it along
+-- how many bytes come before the quote that closes a text, in its line; a backslash belongs to the byte after it
 abbrev pub before_quote : List ℕ → Option ℕ
 before_quote [] = None
 before_quote (b ∷ []) = if b == quote then Some 0 else None
@@ -98,11 +98,11 @@ before_quote (b ∷ c ∷ bs) =
     if b == backslash && not (c == line_feed) then option_map (λ n. n + 2) (before_quote bs) else
     option_map (λ n. n + 1) (before_quote (c ∷ bs))
 
--- a text in quotes, as a token of this kind
+-- a quoted text, as a token of this kind
 abbrev pub quoted : TokenKind → List ℕ → Piece
 quoted kind text = elim (before_quote (drop 1 text)) [ None ↦ Fault OpenQuote | Some n ↦ Token kind (take n (drop 1 text)) (n + 2) ]
 
--- how many bytes a value has: it runs to a blank, and a backslash takes the byte behind it along
+-- how many bytes a value has: it reaches to a blank, and a backslash belongs to the byte after it
 abbrev pub value_size : List ℕ → ℕ
 value_size [] = 0
 value_size (b ∷ []) = if is_blank b then 0 else 1
@@ -111,24 +111,24 @@ value_size (b ∷ c ∷ bs) =
     if b == backslash && not (c == line_feed) then value_size bs + 2 else
     value_size (c ∷ bs) + 1
 
--- a comma that ends a word, from what follows it
+-- a comma ends a word, by what follows the comma
 abbrev pub ends_item : List ℕ → Bool
 ends_item [] = true
 ends_item (b ∷ bs) = is_blank b || b == hash || b == closing_brace
 
--- outside braces a word ends before this byte, which stands behind another and before a text
+-- outside braces a word ends before this byte, by the byte before it and the text after it
 abbrev pub ends_word : ℕ → ℕ → List ℕ → Bool
 ends_word before b after =
     b == closing_brace
     || (b == opening_brace && before == closing_parenthesis)
     || (b == comma && ends_item after)
 
--- how many braces are open behind a byte
+-- how many braces are open after a byte
 abbrev pub depth_behind : ℕ → ℕ → ℕ
 depth_behind depth b = if b == opening_brace then depth + 1 else if b == closing_brace then depth - 1 else depth
 
--- How many bytes are left of a word behind a byte, within so many braces; none where a blank or the text's end stands in braces. A
--- backslash takes the byte behind it along.
+-- How many bytes are left of a word after a byte, within so many braces; `None` where a blank or the text's end comes within braces. A backslash
+-- belongs to the byte after it.
 abbrev pub word_left : ℕ → ℕ → List ℕ → Option ℕ
 word_left depth before [] = if depth == 0 then Some 0 else None
 word_left depth before (b ∷ []) =
@@ -141,7 +141,7 @@ word_left depth before (b ∷ c ∷ bs) =
     if b == backslash && not (c == line_feed) then option_map (λ n. n + 2) (word_left depth c bs) else
     option_map (λ n. n + 1) (word_left (depth_behind depth b) b (c ∷ bs))
 
--- a word, before which nothing of it stands
+-- a word, of which nothing was read yet
 abbrev pub word : List ℕ → Piece
 word text = elim (word_left 0 0 text) [ None ↦ Fault OpenOther | Some n ↦ Token Word (take n text) n ]
 
@@ -155,21 +155,21 @@ plain b text =
     if b == closing_brace then Token CloseBrace (take 1 text) 1 else
     word text
 
--- what stands at a place outside values: the first of the kinds that fits
+-- what a text has at an offset outside values: the first of the kinds that fits
 abbrev pub piece : ℕ → List ℕ → Piece
 piece b text = elim (opening text) [
   | Some o ↦ include_from text o
   | None ↦ elim (assign text) [ Some token ↦ token | None ↦ plain b text ]
 ]
 
--- what stands at a place where a value may begin
+-- what a text has at an offset where a value may begin
 abbrev pub value_piece : ℕ → List ℕ → Piece
 value_piece b text =
     if b == hash then comment text else
     if b == quote then quoted Value text else
     Token Value (take (value_size text) text) (value_size text)
 
--- what stands at a place of a text, where a value may begin or may not
+-- what a text has at an offset, where a value may begin or where none may
 abbrev pub piece_at : Bool → List ℕ → Piece
 piece_at values text = if values then value_piece (slice_index text 0) text else piece (slice_index text 0) text
 
@@ -188,14 +188,14 @@ abbrev pub before_tokens : Seen → Result (List Seen) (CutRefusal × ℕ) → R
 before_tokens token (Ok tokens) = Ok (token ∷ tokens)
 before_tokens token (Err fault) = Err fault
 
--- what a piece at a place comes to, with what follows it: how many bytes of it are left, and whether values follow in its line
+-- the tokens of a piece at an offset and of what follows it, by how many bytes of the piece are left and whether values follow in its line
 abbrev pub cut_on : ℕ → Bool → Piece → (ℕ → Bool → Result (List Seen) (CutRefusal × ℕ)) → Result (List Seen) (CutRefusal × ℕ)
 cut_on at values (Token kind text size) more = before_tokens (record { kind = kind; text = text; start = at; end = at + size }) (more (size - 1) (values || is_assign kind))
 cut_on at values (Comment size) more = more (size - 1) values
 cut_on at values (Fault refusal) more = Err (refusal, at)
 
--- The tokens of a text at a place of its source, or its first fault and the place of that. So many bytes belong to the token or comment
--- before. Behind an Assign values follow, to the end of its line.
+-- The tokens of a text at an offset of its source, or its first fault with its offset. So many bytes belong to the token or comment before. After an
+-- Assign values follow, to the end of its line.
 abbrev pub cut : ℕ → ℕ → Bool → List ℕ → Result (List Seen) (CutRefusal × ℕ)
 cut at left values [] = Ok []
 cut at (suc left) values (b ∷ bs) = cut (at + 1) left values bs

@@ -1,4 +1,4 @@
--- The refusals of a cut: each one's number and name, and what a fault tells.
+-- The refusals of a cut: the number and name of each, and what a fault means.
 use Rattle.std.specs.Prelude.{ℕ, ◌≡◌, List, Result, Err, codes, MatchOption}
 use Rattle.aa_text_tokens.specs.Cut.{Seen}
 use Rattle.aa_text_tokens.specs.declared.cut.CutFault.{CutFault}
@@ -17,6 +17,6 @@ number_of refusal = (described refusal).0
 abbrev pub name_of : CutRefusal → List ℕ
 name_of refusal = (described refusal).1
 
--- a fault is the first of a text that is cut, with its place; one with no place tells that memory ran out
+-- a fault is the first of a text that is cut, with its offset; one without an offset means that memory ran out
 abbrev pub IsFirstFault : CutFault → Result (List Seen) (CutRefusal × ℕ) → Type 0
 IsFirstFault fault tokens = MatchOption fault.at (fault.refusal ≡ Memory) (λ at. tokens ≡ Err (fault.refusal, at))

@@ -1,4 +1,4 @@
--- Words that the laws of cutting are said in.
+-- Definitions for the laws of cutting.
 use Rattle.std.specs.Prelude.{ℕ, ◌≡◌, ◌+◌, ◌-◌, ◌<◌, ◌≤◌, Bool, true, false, not, ◌==◌, ◌&&◌, ◌||◌, List, [], ◌∷◌, ◌++◌, length, take, drop, if◌then◌else◌, Result, Ok, Err, codes, ◌⊎◌}
 use Rattle.std.specs.List.{list_all, list_any}
 use Rattle.aa_bytes.specs.Texts.{begins, begins_with_byte}
@@ -9,22 +9,22 @@ use Rattle.aa_text_tokens.specs.declared.cut.CutRefusal.{CutRefusal}
 use Rattle.aa_text_tokens.specs.declared.cut.TokenKind.{TokenKind}
 use Rattle.aa_text_tokens.specs.declared.cut.TokenKind.TheVariants.{Assign, Include, Quoted, Value}
 
--- A text is made of blanks and comments alone, from outside a comment or from within one. A comment runs to the end of its line; only the
--- last gap may end within one.
+-- A text has only blanks and comments, from outside a comment or from within one. A comment reaches to the end of its line; only the last gap may
+-- end within one.
 abbrev pub is_gap_from : Bool → Bool → List ℕ → Bool
 is_gap_from last comment [] = last || not comment
 is_gap_from last true (b ∷ bs) = is_gap_from last (not (b == line_feed)) bs
 is_gap_from last false (b ∷ bs) = (is_blank b || b == hash) && is_gap_from last (b == hash) bs
 
--- what may stand before a token
+-- what may come before a token
 abbrev pub is_gap : List ℕ → Bool
 is_gap text = is_gap_from false false text
 
--- what may stand behind the last token
+-- what may follow the last token
 abbrev pub is_last_gap : List ℕ → Bool
 is_last_gap text = is_gap_from true false text
 
--- a text is spaces and tabs alone
+-- a text has only spaces and tabs
 abbrev pub are_spaces : List ℕ → Bool
 are_spaces text = list_all is_space_or_tab text
 
@@ -33,7 +33,7 @@ abbrev pub IsIncludeWord : List ℕ → Type 0
 IsIncludeWord front =
     (word : List ℕ) × (gap : List ℕ) × ((word ≡ codes "include") ⊎ (word ≡ codes "#include")) × (are_spaces gap ≡ true) × (front ≡ word ++ gap)
 
--- What stands before the byte that opens an Include's name: its word alone, or `if exists` behind it where the file may be missing.
+-- What comes before the byte that opens an Include's name: its word alone, or followed by `if exists` where the file may be missing.
 abbrev pub IsBeforeName : Bool → List ℕ → Type 0
 IsBeforeName false front = IsIncludeWord front
 IsBeforeName true front =
@@ -44,9 +44,9 @@ IsBeforeName true front =
 abbrev pub assign_sign : Bool → List ℕ
 assign_sign append = if append then codes "+=" else codes "="
 
--- How a token's span tells its text, and whether an Include's file may be missing and an Assign appends: an Include's name stands between the
--- byte that opens it and the one that closes it, behind its word, an Assign's between `@{` and `}`, before its sign, and a text in quotes
--- between these. A value may stand in quotes or not. Any other token's text is all of its span.
+-- How a token's span determines its text, and whether an Include's file may be missing and an Assign appends: an Include's name is between the byte
+-- that opens it and the one that closes it, after its word, an Assign's between `@{` and `}`, before its sign, and a quoted text between the quotes.
+-- A value may be in quotes or not. Any other token's text is all of its span.
 abbrev pub IsTextOf : TokenKind → List ℕ → List ℕ → Type 0
 IsTextOf (Include if_exists) text span =
     (front : List ℕ) × (opener : ℕ) × IsBeforeName if_exists front × ((opener == smaller || opener == quote) ≡ true) × (span ≡ front ++ opener ∷ text ++ closing opener ∷ [])
@@ -55,28 +55,27 @@ IsTextOf Value text span = ((begins_with_byte quote span ≡ false) × (span ≡
 IsTextOf Quoted text span = span ≡ quote ∷ text ++ quote ∷ []
 IsTextOf kind text span = span ≡ text
 
--- A token is the next one in a text, from a place of its source on.
+-- A token is the next one in a text, from an offset of its source on.
 pub record IsNext (at : ℕ) (text : List ℕ) (token : Seen) : Type 0 where
-  -- it does not overlap what stands before
+  -- it does not overlap what comes before
   pub behind : at ≤ token.start
   -- it has at least one byte
   pub some : token.start < token.end
   -- all of it belongs to the text
   pub within : token.end ≤ at + length text
-  -- blanks and comments alone stand before it
+  -- only blanks and comments come before it
   pub gap : is_gap (take (token.start - at) text) ≡ true
   -- it begins with no blank
   pub black : begins is_blank (drop (token.start - at) text) ≡ false
-  -- its span tells its own text, and what its kind says beside
+  -- its span determines its own text, and what else its kind says
   pub own : IsTextOf token.kind token.text (take (token.end - token.start) (drop (token.start - at) text))
 
--- Tokens cover a text, from a place of its source on: each is the next one behind those before it, and blanks and comments alone stand
--- behind the last.
+-- Tokens cover a text, from an offset of its source on: each is the next one after those before it, and only blanks and comments follow the last.
 abbrev pub Covers : ℕ → List ℕ → List Seen → Type 0
 Covers at text [] = is_last_gap text ≡ true
 Covers at text (token ∷ tokens) = IsNext at text token × Covers token.end (drop (token.end - at) text) tokens
 
--- a line feed stands in a text
+-- a text has a line feed
 abbrev pub has_line_feed : List ℕ → Bool
 has_line_feed text = list_any (λ b. b == line_feed) text
 
@@ -90,7 +89,7 @@ abbrev pub is_value : TokenKind → Bool
 is_value Value = true
 is_value kind = false
 
--- Behind an Assign each token is a value, and before it none is; or each is from the first on.
+-- After an Assign each token is a value, and before it none is; or each is from the first on.
 abbrev pub AreValuesPlaced : Bool → List Seen → Type 0
 AreValuesPlaced values [] = Unit {0}
 AreValuesPlaced values (token ∷ tokens) = (is_value token.kind ≡ values) × AreValuesPlaced (values || is_assign token.kind) tokens
@@ -101,7 +100,7 @@ TextIsCutByLines =
     (at : ℕ) (values : Bool) (text rest : List ℕ)
     → cut at 0 values (text ++ line_feed ∷ rest) ≡ followed_by (cut at 0 values text) (cut (at + length text + 1) 0 false rest)
 
--- In a line each token behind an Assign is a value, and no other is.
+-- In a line each token after an Assign is a value, and no other is.
 abbrev pub LineHasValuesPlaced : Type 0
 LineHasValuesPlaced =
     (at : ℕ) (line : List ℕ) (tokens : List Seen)

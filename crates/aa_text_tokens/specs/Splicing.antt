@@ -1,5 +1,5 @@
--- Splicing: a file's tokens, with those of the files that it includes in the place of each Include (apparmor.d(5), "#include
--- mechanism"; see docs/policy.md, "Includes").
+-- Splicing: a file's tokens, each Include replaced by the tokens of the files that it includes (apparmor.d(5), "#include mechanism"; see
+-- docs/policy.md, "Includes").
 use Rattle.std.specs.Prelude.{ℕ, zero, suc, ◌+◌, ◌-◌, Bool, false, not, ◌==◌, nat_le, if◌then◌else◌, List, [], ◌∷◌, ◌++◌, length, take, Option, None, Some, Result, Ok, Err}
 use Rattle.std.specs.List.{prefix_len}
 use Rattle.aa_bytes.specs.Bytes.{slash}
@@ -15,28 +15,28 @@ use Rattle.aa_text_files.specs.declared.text_error.Place.{Place}
 use Rattle.aa_text_files.specs.declared.text_error.TextRefusal.{TextRefusal}
 use Rattle.aa_text_files.specs.declared.text_error.TextRefusal.TheVariants.{ZeroByte, OpenQuote, OpenOther, NoFile, IncludeDepth, TextTooBig, Memory}
 
--- how deep includes may stand in one another
+-- how deep includes may be nested
 abbrev pub deepest : ℕ
 deepest = 16
 
--- a token, and the place of its file among the files
+-- a token, and the index of its file among the files
 pub record Placed : Type 0 where
   pub file : ℕ
   pub token : Seen
 
--- why a file can't be spliced, and the place of that, if it has one
+-- why a file can't be spliced, and the place of the fault, if it has one
 abbrev pub Fault : Type 0
 Fault = TextRefusal × Option Place
 
--- what entering files gives: their tokens, and how many bytes were entered so far; or the first fault
+-- the result of entering files: their tokens, and how many bytes were entered so far; or the first fault
 abbrev pub Entered : Type 0
 Entered = Result (List Placed × ℕ) Fault
 
--- the name that an Include looks up: as it is written, but for one `/` at its end
+-- the name that an Include looks up: as it is written, without one `/` at its end
 abbrev pub looked_up : List ℕ → List ℕ
 looked_up name = if is_folder_name name then take (length name - 1) name else name
 
--- what an Include puts in: these files, nothing, or a file that isn't there
+-- what an Include names: these files, nothing, or a file that doesn't exist
 pub data Target : Type 0 where
   Entering : (files : List ℕ) → Target
   Nothing : Target
@@ -63,12 +63,12 @@ refusal_of cut_refusal.OpenQuote = OpenQuote
 refusal_of cut_refusal.OpenOther = OpenOther
 refusal_of cut_refusal.Memory = Memory
 
--- tokens, and then what further files and tokens give
+-- tokens, followed by those of further files and tokens
 unfoldable pub and_then : Entered → (ℕ → Entered) → Entered
 and_then (Err fault) more = Err fault
 and_then (Ok first) more = elim (more first.1) [ Err fault ↦ Err fault | Ok rest ↦ Ok (first.0 ++ rest.0, rest.1) ]
 
--- How a file is entered that an Include at a place puts in, with so many bytes entered before; none where the depth is used up.
+-- How a file is entered for an Include at a place, with so many bytes entered before; `None` where the depth is used up.
 abbrev pub Way : Type 0
 Way = Option (ℕ → ℕ → Option Place → Entered)
 
@@ -77,7 +77,7 @@ unfoldable pub each : (ℕ → ℕ → Option Place → Entered) → Option Plac
 each enter place [] total = Ok ([], total)
 each enter place (file ∷ files) total = and_then (enter file total place) (each enter place files)
 
--- what an Include gives: the depth is looked at before the name
+-- the result of an Include: the depth is checked before the name
 unfoldable pub included : Way → Place → Target → ℕ → Entered
 included way place Nothing total = Ok ([], total)
 included None place target total = Err (IncludeDepth, Some place)
@@ -104,7 +104,7 @@ entered files way file total place =
       | Ok tokens ↦ walked files way file tokens (total + length bytes)
     ]
 
--- a file that is entered where so many includes may still stand in one another
+-- a file that is entered where includes may be nested so many levels deeper
 unfoldable pub within : List File → ℕ → ℕ → ℕ → Option Place → Entered
 within files zero file total place = entered files None file total place
 within files (suc depth) file total place = entered files (Some (within files depth)) file total place
@@ -114,6 +114,6 @@ abbrev pub tokens_of : Entered → Result (List Placed) Fault
 tokens_of (Ok all) = Ok all.0
 tokens_of (Err fault) = Err fault
 
--- the tokens of a command's own file, which is looked up as it is written
+-- the tokens of a command's own file, whose name is looked up as it is written
 unfoldable pub spliced : List File → List ℕ → Result (List Placed) Fault
 spliced files name = elim (file_at files name) [ None ↦ Err (NoFile, None) | Some file ↦ tokens_of (within files deepest file 0 None) ]

@@ -1,4 +1,4 @@
-//! Assigns, as `@{PROC} =` and `@{HOMEDIRS}+=`.
+//! Assigns, the beginnings of assignments, as `@{PROC} =` and `@{HOMEDIRS}+=`.
 
 ghost use Rattle.std.specs.Prelude.{◌≡◌, length, IfSome};
 ghost use Rattle.std.specs.Option.{option_map};
@@ -11,7 +11,7 @@ use crate::front::{begins_letter, spaces, variable_name_size};
 use crate::piece::Piece;
 use aa_bytes::{begins_with, begins_with_byte, behind};
 
-/// The Assign that a text begins with, or nothing where it begins with none.
+/// The Assign with which a text begins, or `None`. It takes no memory.
 pub fn read_assign(text: &[u8]) -> Option<Piece<'_>>
     ensures value { option_map seen_piece result ≡ assign text.now }
     ensures within { IfSome result (λ piece. IsWithin (length text.now) piece) }
@@ -36,7 +36,7 @@ pub fn read_assign(text: &[u8]) -> Option<Piece<'_>>
     None
 }
 
-// The Assign of a name, of so many bytes.
+// The Assign of a name; its span has so many bytes.
 fn assign_piece(append: bool, name: &[u8], size: usize) -> Piece<'_>
     ensures { seen_piece result ≡ Token (Assign append) name.now size }
 {

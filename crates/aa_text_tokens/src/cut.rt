@@ -15,12 +15,12 @@ use crate::piece::{Piece, read_piece, read_value_piece};
 use std::alloc::{AllocError, AllocFailed, Global};
 use thiserror::Error;
 
-/// What a token is.
+/// The kind of a token.
 #[derive(Clone, Copy, Debug, PartialEq, Eq)]
 pub enum TokenKind {
     /// `include <NAME>` or `include "NAME"`, also with `#include`. Its text is the name.
     Include {
-        /// Whether `if exists` stands before the name.
+        /// Whether `if exists` comes before the name.
         if_exists: bool,
     },
     /// `@{NAME} =` or `@{NAME} +=`, up to the sign. Its text is the name.
@@ -28,9 +28,9 @@ pub enum TokenKind {
         /// Whether the sign is `+=`.
         append: bool,
     },
-    /// A value behind an Assign, in its line. Its text is what stands between quotes, or all of it.
+    /// A value after an Assign, in its line. Its text is what is in quotes, or all of it.
     Value,
-    /// A text in quotes. Its text is what stands between them, backslashes kept.
+    /// A quoted text. Its text is what is between the quotes, backslashes kept.
     Quoted,
     /// A word.
     Word,
@@ -42,16 +42,16 @@ pub enum TokenKind {
     CloseBrace,
 }
 
-/// A token of a text.
+/// A token of a file's text. It borrows the text.
 #[derive(Clone, Copy, Debug)]
 pub struct Token<'a> {
-    /// What it is.
+    /// What kind of token it is.
     pub kind: TokenKind,
-    /// Its own text, a part of the source.
+    /// The token's own text, a part of the source.
     pub text: &'a [u8],
-    /// Where its span begins: how many bytes of the source stand before it.
+    /// The offset in the source where its span begins, in bytes.
     pub start: usize,
-    /// Where its span ends: how many bytes of the source stand before what follows it.
+    /// The offset in the source after the last byte of its span.
     pub end: usize,
 }
 
@@ -61,7 +61,7 @@ pub enum CutRefusal {
     /// A quote isn't closed in its line.
     #[error("a quote isn't closed in its line")]
     OpenQuote,
-    /// The name of an Include isn't closed in its line, or a blank or the text's end stands within the braces of a word.
+    /// The name of an Include isn't closed in its line, or a blank or the text's end comes within the braces of a word.
     #[error("a name or a brace isn't closed")]
     OpenOther,
     /// Memory ran out.
@@ -75,7 +75,7 @@ pub enum CutRefusal {
 pub struct CutFault {
     /// What is wrong.
     pub refusal: CutRefusal,
-    /// How many bytes of the source stand before it; nothing where memory ran out.
+    /// The offset of the fault in the source, in bytes; `None` where memory ran out.
     pub at: Option<usize>,
 }
 
@@ -125,14 +125,14 @@ impl<T: Drop> From<AllocFailed<T>> for CutFault {
     }
 }
 
-// Whether values follow behind a token, where they may or may not before it.
+// Whether values may follow a token, by whether they might before it.
 fn values_from(values: bool, kind: TokenKind) -> bool
     ensures { result ≡ (values || is_assign kind) }
 {
     values || matches!(kind, TokenKind::Assign { .. })
 }
 
-// What a text begins with, where a value may begin or may not.
+// What a text begins with, where a value may begin or where none may.
 fn piece_at(values: bool, text: &[u8]) -> Piece<'_>
     requires { begins starts_piece text.now ≡ true }
     ensures value { seen_piece result ≡ piece_at values text.now }
@@ -145,15 +145,15 @@ fn piece_at(values: bool, text: &[u8]) -> Piece<'_>
     }
 }
 
-// Whether values follow behind a blank, where they do before it.
+// Whether values may follow a blank, by whether they might before it.
 fn values_behind(values: bool, blank: u8) -> bool
     ensures { result ≡ (values && not (blank == line_feed)) }
 {
     values && blank != b'\n'
 }
 
-// Reads what a text begins with at a place of the source, and puts it behind the other tokens if it is one: how many bytes it has, and
-// whether values follow behind it.
+// Reads what a text begins with at an offset of the source, and appends it to the tokens if it is one. Returns how many bytes it has, and whether
+// values may follow it.
 fn read_on<'a>(
     tokens: &mut Vec<Token<'a>>,
     at: usize,
@@ -194,11 +194,11 @@ fn read_on<'a>(
     }
 }
 
-/// The tokens of a text, in its order.
+/// Returns the tokens of a text, in order. They borrow the text. It allocates the list of tokens alone.
 ///
 /// # Errors
 ///
-/// The first of the text's faults, with its place: `OpenQuote` or `OpenOther`. `Memory`, with no place, where memory runs out.
+/// The first of the text's faults, with its offset: `OpenQuote` or `OpenOther`. `Memory`, without one, where memory runs out.
 pub fn tokens(alloc: Global, source: &[u8]) -> Result<Vec<Token<'_>>, CutFault>
     ensures ok { IfOk result (λ tokens. cut 0 0 false source.now ≡ Ok (map seen tokens.items)) }
     ensures refused { IfErr result (λ fault. IsFirstFault fault (cut 0 0 false source.now)) }

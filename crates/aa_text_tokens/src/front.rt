@@ -1,4 +1,4 @@
-//! What a text begins with, as tokens ask.
+//! What a text begins with, as far as tokens depend on it.
 
 ghost use Rattle.std.specs.Prelude.{◌≡◌, ◌≤◌, ◌&&◌, ◌==◌, not, length};
 ghost use Rattle.std.specs.List.{prefix_len};
@@ -8,7 +8,7 @@ ghost use Rattle.aa_text_tokens.specs.Cut.{is_name_byte, spaces};
 
 use aa_bytes::length_while;
 
-/// Whether a byte is a blank.
+/// Whether a byte is a blank: a space, or one of the bytes 9 to 13.
 pub fn is_blank(byte: u8) -> bool
     ensures { result ≡ is_blank byte }
 {
@@ -45,7 +45,7 @@ pub fn spaces(text: &[u8]) -> usize
     length_while(text, is_space_or_tab)
 }
 
-/// How many bytes of a variable's name a text begins with.
+/// How many bytes of a variable's name a text begins with: ASCII letters, digits and `_`.
 pub fn variable_name_size(text: &[u8]) -> usize
     ensures value { result ≡ prefix_len is_name_byte text.now }
     ensures within { result ≤ length text.now }
@@ -53,7 +53,7 @@ pub fn variable_name_size(text: &[u8]) -> usize
     length_while(text, is_name_byte)
 }
 
-/// How many bytes of a text stand before its first line feed.
+/// How many bytes a text has before its first line feed; all of them where it has none.
 pub fn line_size(text: &[u8]) -> usize
     ensures value { result ≡ prefix_len (λ b. not (b == line_feed)) text.now }
     ensures within { result ≤ length text.now }
@@ -61,7 +61,7 @@ pub fn line_size(text: &[u8]) -> usize
     length_while(text, |byte| byte != b'\n')
 }
 
-/// How many bytes of a text stand before the first that is this one or a line feed.
+/// How many bytes a text has before the first that is this one or a line feed.
 pub fn size_before(close: u8, text: &[u8]) -> usize
     ensures value { result ≡ prefix_len (λ b. not (b == close) && not (b == line_feed)) text.now }
     ensures within { result ≤ length text.now }

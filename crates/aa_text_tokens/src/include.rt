@@ -9,16 +9,16 @@ use crate::front::{size_before, spaces};
 use crate::piece::Piece;
 use aa_bytes::{begins_with, begins_with_byte, behind};
 
-/// Where the name of an Include opens.
+/// Where the name of an Include begins.
 #[derive(Clone, Copy, Debug, PartialEq, Eq)]
 pub struct Opening {
-    /// The place of the byte that opens it.
+    /// The offset of the byte that opens it: `<` or `"`.
     pub at: usize,
-    /// Whether `if exists` stands before it.
+    /// Whether `if exists` comes before it.
     pub if_exists: bool,
 }
 
-// How many bytes the word of an Include has, where a text begins with one.
+// How many bytes the word `include` or `#include` has with which a text begins, if it begins with one.
 fn include_word(text: &[u8]) -> Option<usize>
     ensures value { result ≡ include_word text.now }
     ensures within { IfSome result (λ word. word ≤ length text.now) }
@@ -39,7 +39,7 @@ fn opens_name(text: &[u8]) -> bool
     begins_with_byte(b'<', text) || begins_with_byte(b'"', text)
 }
 
-// Where the name opens behind `if`, which ends at a place of the text.
+// Where the name begins after an `if` that ends at an offset of the text.
 fn opening_if_exists(at: usize, text: &[u8]) -> Option<Opening>
     requires { at ≤ length text.now }
     ensures value { result ≡ opening_if_exists at text.now }
@@ -61,7 +61,7 @@ fn opening_if_exists(at: usize, text: &[u8]) -> Option<Opening>
     })
 }
 
-// Where the name opens behind the word of an Include, which has so many bytes.
+// Where the name begins after the word of an Include, which has so many bytes.
 fn opening_behind(text: &[u8], word: usize) -> Option<Opening>
     requires { word ≤ length text.now }
     ensures value { result ≡ opening_behind text.now word }
@@ -80,7 +80,7 @@ fn opening_behind(text: &[u8], word: usize) -> Option<Opening>
     None
 }
 
-/// Where the name opens of the Include that a text begins with, or nothing where it begins with none.
+/// Where the name begins in the Include with which a text begins, or `None` where it begins with none.
 pub fn find_opening(text: &[u8]) -> Option<Opening>
     ensures value { result ≡ opening text.now }
     ensures within { IfSome result (λ opening. opening.at < length text.now) }
@@ -96,7 +96,7 @@ fn closing(first: u8) -> u8
     if first == b'<' { b'>' } else { first }
 }
 
-// What is told of a name that isn't closed in its line.
+// The fault of a name that isn't closed in its line, by the byte that opens it.
 fn unclosed(first: u8) -> CutRefusal
     ensures { result ≡ unclosed first }
 {
@@ -107,7 +107,7 @@ fn unclosed(first: u8) -> CutRefusal
     }
 }
 
-/// The Include that a text begins with, from where its name opens.
+/// The Include with which a text begins, whose name begins at this opening; or the fault that the name isn't closed.
 pub fn include_from(text: &[u8], opening: Opening) -> Piece<'_>
     requires { opening.at < length text.now }
     ensures value { seen_piece result ≡ include_from text.now opening }

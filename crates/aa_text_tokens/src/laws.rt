@@ -1,15 +1,14 @@
-//! What holds of the tokens of a text, as laws over the definition of the cut.
+//! Properties of the tokens of a text, as laws over the definition of the cut.
 
 ghost use Rattle.std.specs.Prelude.{◌≡◌, ◌++◌, ℕ, Bool, false, List, ◌∷◌, Ok};
 ghost use Rattle.aa_bytes.specs.Bytes.{line_feed};
 ghost use Rattle.aa_text_tokens.specs.Cut.{cut, piece_at, Seen};
 ghost use Rattle.aa_text_tokens.specs.CutLaws.{Covers, LineHasValuesPlaced, TextIsCutByLines};
 
-/// The tokens of a text cover it from left to right: none overlaps another, what stands between them, before the first and behind the last
-/// is blanks and comments alone, and each token's span tells its text, whether an Include has `if exists` and whether an Assign's sign is `+=`.
-/// What stands at a place does not depend on what follows its line: it is what would stand there if the text ended with the line. So a text
-/// is cut line by line: up to a line feed as if it ended there, and what follows as if it began there. In a line each token behind an Assign
-/// is a value, and no other is.
+/// The tokens of a text cover it from left to right: none overlaps another; before, between and after them are blanks and comments alone; and each
+/// token's span determines its text, whether an Include has `if exists` and whether an Assign's sign is `+=`. What is read at an offset does not
+/// depend on what follows its line: it is what would be read if the text ended with the line. So a text is cut line by line: up to a line feed as if
+/// it ended there, and what follows as if it began there. In a line each token after an Assign is a value, and no other is.
 pub fn how_a_text_is_cut()
     ensures tokens_cover_a_text { (source : List ℕ) (tokens : List Seen)
         → cut 0 0 false source ≡ Ok tokens

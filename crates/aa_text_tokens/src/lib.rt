@@ -1,5 +1,5 @@
-//! The tokens of a file: the cut of its text into words, texts in quotes, signs, includes and assignments; and splicing, which has the tokens of the files
-//! that it includes in the place of each include.
+//! The tokens of a profile file: `tokens` cuts its text into words, quoted texts, signs, includes and assignments; `spliced` also replaces each
+//! include by the tokens of the files that it names. Tokens borrow the text of the files. `aa_text` passes on both.
 #![tactic(auto)]
 
 mod assign;

@@ -1,4 +1,4 @@
-//! What stands at a place of a text.
+//! What a text has at an offset.
 
 ghost use Rattle.std.specs.Prelude.{◌≡◌, ◌<◌, length, slice_index, take, true};
 ghost use Rattle.aa_bytes.specs.Bytes.{hash};
@@ -14,14 +14,14 @@ use crate::include::{find_opening, include_from};
 use crate::quoted::{read_quoted, value_size};
 use crate::word::read_word;
 
-/// What stands at a place where a token may begin.
+/// What a text has where a token may begin.
 #[derive(Clone, Copy, Debug)]
 pub enum Piece<'a> {
     /// A token.
     Token {
-        /// What it is.
+        /// The kind of the token.
         kind: TokenKind,
-        /// Its own text, a part of its span.
+        /// The token's own text, a part of its span.
         text: &'a [u8],
         /// How many bytes its span has.
         size: usize,
@@ -31,14 +31,14 @@ pub enum Piece<'a> {
         /// How many bytes its span has.
         size: usize,
     },
-    /// Neither.
+    /// Neither: the text has a fault here.
     Fault {
-        /// Why not.
+        /// What is wrong.
         refusal: CutRefusal,
     },
 }
 
-// The comment that a text begins with.
+// The comment with which a text begins: it reaches to the end of the line.
 fn read_comment(text: &[u8]) -> Piece<'_>
     requires { slice_index text.now 0 ≡ hash }
     ensures value { seen_piece result ≡ comment text.now }
@@ -49,7 +49,7 @@ fn read_comment(text: &[u8]) -> Piece<'_>
     }
 }
 
-// A token of a text's first byte.
+// The token that is a text's first byte.
 fn one_byte(kind: TokenKind, text: &[u8]) -> Piece<'_>
     requires { 0 < length text.now }
     ensures value { seen_piece result ≡ Token kind (take 1 text.now) 1 }
@@ -78,7 +78,7 @@ fn read_plain(text: &[u8]) -> Piece<'_>
     }
 }
 
-/// What a text begins with at a place outside values: the first of the kinds that fits.
+/// What a text begins with, where no value may begin: an Include, else an Assign, else a comment or another token. The text isn't empty.
 pub fn read_piece(text: &[u8]) -> Piece<'_>
     requires { begins starts_piece text.now ≡ true }
     ensures value { seen_piece result ≡ piece (slice_index text.now 0) text.now }
@@ -93,7 +93,7 @@ pub fn read_piece(text: &[u8]) -> Piece<'_>
     }
 }
 
-// The value that a text begins with, without quotes.
+// The value without quotes with which a text begins.
 fn read_value(text: &[u8]) -> Piece<'_>
     requires { begins starts_piece text.now ≡ true }
     ensures value { seen_piece result ≡ Token Value (take (value_size text.now) text.now) (value_size text.now) }
@@ -107,7 +107,7 @@ fn read_value(text: &[u8]) -> Piece<'_>
     }
 }
 
-/// What a text begins with at a place where a value may begin.
+/// What a text begins with, where a value may begin. The text isn't empty.
 pub fn read_value_piece(text: &[u8]) -> Piece<'_>
     requires { begins starts_piece text.now ≡ true }
     ensures value { seen_piece result ≡ value_piece (slice_index text.now 0) text.now }

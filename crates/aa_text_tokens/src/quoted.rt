@@ -1,4 +1,4 @@
-//! Texts in quotes, and values.
+//! Quoted texts, and values.
 
 ghost use Rattle.std.specs.Prelude.{◌≡◌, ◌≤◌, ◌<◌, length, IfSome};
 ghost use Rattle.aa_text_tokens.specs.Cut.{before_quote, quoted, value_size};
@@ -9,7 +9,7 @@ use crate::front::is_blank;
 use crate::piece::Piece;
 use aa_bytes::behind;
 
-/// How many bytes stand together at the front of a text: a backslash takes the byte behind it along, unless that is a line feed.
+/// How many bytes at the front of a text belong together: a backslash and the byte after it, unless that is a line feed.
 pub fn taken(text: &[u8]) -> usize
     requires { 0 < length text.now }
     ensures value { result ≡ taken text.now }
@@ -22,7 +22,7 @@ pub fn taken(text: &[u8]) -> usize
     }
 }
 
-// How many bytes stand before the quote that closes a text, in its line.
+// How many bytes come before the quote that closes a text in its line; `None` where none does.
 fn before_quote(text: &[u8]) -> Option<usize>
     ensures value { result ≡ before_quote text.now }
     ensures within { IfSome result (λ size. size < length text.now) }
@@ -43,7 +43,7 @@ fn before_quote(text: &[u8]) -> Option<usize>
     None
 }
 
-/// The text in quotes that a text begins with, as a token of this kind.
+/// The quoted text with which a text begins, as a token of this kind.
 pub fn read_quoted(kind: TokenKind, text: &[u8]) -> Piece<'_>
     ensures value { seen_piece result ≡ quoted kind text.now }
     ensures within { IsWithin (length text.now) result }
@@ -61,7 +61,7 @@ pub fn read_quoted(kind: TokenKind, text: &[u8]) -> Piece<'_>
     }
 }
 
-/// How many bytes the value has that a text begins with.
+/// How many bytes the value has with which a text begins.
 pub fn value_size(text: &[u8]) -> usize
     ensures value { result ≡ value_size text.now }
     ensures within { result ≤ length text.now }

@@ -2,10 +2,10 @@
 
 use crate::cut::Token;
 
-/// A token, and the file that it stands in.
+/// A token, and the file from which it is.
 #[derive(Clone, Copy, Debug)]
 pub struct Spliced<'a> {
-    /// The place of the file among the files.
+    /// The index of the file among the files.
     pub file: usize,
     /// The token.
     pub token: Token<'a>,

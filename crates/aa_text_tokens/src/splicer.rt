@@ -1,4 +1,4 @@
-//! Entering files: the tokens of a file, with those of what it includes in the place of each Include.
+//! Entering files: the tokens of a file, each Include replaced by the tokens of what it includes.
 
 ghost use Rattle.std.specs.Prelude.{◌≡◌, ◌≢◌, ◌≤◌, ◌<◌, ◌==◌, ◌++◌, ◌∷◌, [], ℕ, List, length, not, map, option_map, Some, None, Ok, Err};
 ghost use Rattle.std.specs.Prelude.{IfOk, OnOk, IfErr, if◌then◌else◌};
@@ -21,14 +21,14 @@ use aa_text_files::{Files, MOST_BYTES, Place, TextError, TextRefusal};
 use std::alloc::Global;
 use std::marker::Model;
 
-// How many bytes of a text stand before its first zero byte.
+// How many bytes a text has before its first zero byte.
 fn size_before_zero(text: &[u8]) -> usize
     ensures { result ≡ prefix_len (λ b. not (b == 0)) text.now }
 {
     length_while(text, |byte| byte != 0)
 }
 
-// The refusal of a file's text where it can't be cut.
+// The error for a file whose text can't be cut.
 fn refusal_of(refusal: CutRefusal) -> TextRefusal
     ensures { result ≡ refusal_of refusal }
 {
@@ -39,7 +39,7 @@ fn refusal_of(refusal: CutRefusal) -> TextRefusal
     }
 }
 
-// The fault of a file's text, told with the file.
+// The fault of a file's text, with the file.
 fn fault_in(file: usize, fault: CutFault) -> TextError
     ensures refusal { result.refusal ≡ refusal_of fault.refusal }
     ensures place { result.place ≡ option_map (λ at. record { file = file; at = at }) fault.at }
@@ -50,7 +50,7 @@ fn fault_in(file: usize, fault: CutFault) -> TextError
     }
 }
 
-// The tokens of a file that is entered at a place, with so many bytes entered before, and how many bytes are entered with it.
+// The tokens of a file that is entered for the Include at `place`, with `before` bytes entered before, and how many bytes are entered with it.
 fn file_tokens<'a>(
     alloc: Global,
     files: &'a Files,
@@ -86,7 +86,7 @@ fn file_tokens<'a>(
     }
 }
 
-// The fault of an Include at a place whose files can't be entered: the depth is looked at before the name.
+// The fault of an Include at a place whose files can't be entered: the depth is checked before the name.
 fn include_fault(depth: usize, place: Place) -> TextError
     ensures refusal { result.refusal ≡ (if depth == 0 then IncludeDepth else NoFile) }
     ensures place { result.place ≡ Some place }
@@ -101,13 +101,13 @@ fn include_fault(depth: usize, place: Place) -> TextError
     }
 }
 
-/// The tokens of files that were entered so far, with those of what they include in the place of each Include.
+/// The tokens of the files entered so far, each Include replaced by the tokens of what it includes.
 #[derive(Drop)]
 pub struct Splicer<'a> {
     alloc: Global,
     files: &'a Files,
     tokens: Vec<Spliced<'a>>,
-    // How many bytes were entered for them, each file's as often as it was.
+    // How many bytes were entered so far, each file's as often as it was entered.
     bytes: usize,
 }
 
@@ -121,12 +121,12 @@ impl<'a> Model for Splicer<'a> {
 
     ghost view = { λ s. record { files = s.files.now; tokens = map seen_spliced s.tokens.items; bytes = s.bytes } };
 
-    // The files that were entered have no more bytes than they may.
+    // The files that were entered have no more bytes than `MOST_BYTES`.
     ghost invariant = { λ s. s.bytes ≤ most_bytes };
 }
 
 impl<'a> Splicer<'a> {
-    /// Nothing of these files. It takes no memory.
+    /// No tokens yet, of these files. It takes no memory.
     pub fn new(alloc: Global, files: &'a Files) -> Splicer<'a>
         ensures { result ≡ record { files = files.now; tokens = []; bytes = 0 } }
     {
@@ -138,7 +138,7 @@ impl<'a> Splicer<'a> {
         }
     }
 
-    /// The tokens. It takes no memory.
+    /// The tokens, which aren't copied. It takes no memory.
     pub fn into_tokens(self) -> Vec<Spliced<'a>>
         ensures { map seen_spliced result.items ≡ self.entry.tokens }
     {
@@ -146,7 +146,7 @@ impl<'a> Splicer<'a> {
         tokens
     }
 
-    // The tokens of a file that is entered at a place; its bytes are counted.
+    // The tokens of a file that is entered for an Include at a place; its bytes are counted.
     fn read(&mut self, file: usize, place: Option<Place>) -> Result<Vec<Token<'a>>, TextError>
         ensures ok { IfOk result (λ read. IsRead self.old self.new file place (map seen read.items)) }
         ensures refused { IfErr result (λ error. (depth : ℕ) → IsFaultOf error (with_file self.old depth file place)) }
@@ -157,7 +157,7 @@ impl<'a> Splicer<'a> {
         Ok(read)
     }
 
-    // Puts a token of a file behind the others.
+    // Appends a token of a file.
     fn push(&mut self, file: usize, token: Token<'a>) -> Result<(), TextError>
         ensures ok { OnOk result (self.new ≡ with_token self.old file (seen token.entry)) }
         ensures err { IfErr result (λ error. error ≡ plain Memory) }
@@ -166,7 +166,7 @@ impl<'a> Splicer<'a> {
         Ok(())
     }
 
-    // The files that are entered for an Include at a place: none where it puts in nothing, and only where the depth isn't used up.
+    // The files that are entered for an Include at a place; the depth matters only where there are any.
     fn included(
         &self,
         depth: usize,
@@ -188,12 +188,12 @@ impl<'a> Splicer<'a> {
         Ok(found)
     }
 
-    /// Puts the tokens of a file that is entered at a place behind the others, each Include replaced; so many includes may still stand in
-    /// one another.
+    /// Appends the tokens of a file that is entered for an Include at a place, each Include in it replaced; includes may be nested so many levels
+    /// deeper.
     ///
     /// # Errors
     ///
-    /// The first fault of the file or of one that it includes. Some of its tokens may then have been put in.
+    /// The first fault of the file or of one that it includes. Some of its tokens may then have been appended.
     #[cycle(entering)]
     pub fn enter(
         &mut self,
@@ -212,7 +212,7 @@ impl<'a> Splicer<'a> {
         Ok(())
     }
 
-    // Puts a token of a file behind the others, or what it includes.
+    // Appends a token of a file, or the tokens of what it includes.
     #[cycle(entering)]
     fn put_token(&mut self, depth: usize, file: usize, token: Token<'a>) -> Result<(), TextError>
         ensures ok { OnOk result (IsPut self.old self.new depth file (seen token.entry)) }
@@ -236,7 +236,7 @@ impl<'a> Splicer<'a> {
         }
     }
 
-    // Enters files for an Include at a place, which stands in a file where so many includes may still stand in one another.
+    // Enters files for an Include at a place in a file where includes may be nested so many levels deeper.
     #[cycle(entering)]
     fn enter_each(&mut self, depth: usize, place: Place, found: &[usize]) -> Result<(), TextError>
         requires { 0 < length found.now → 0 < depth }

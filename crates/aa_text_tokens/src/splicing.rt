@@ -1,4 +1,4 @@
-//! The tokens of a file, with those of the files that it includes in the place of each Include.
+//! The tokens of a file, each Include replaced by the tokens of the files that it includes.
 
 ghost use Rattle.std.specs.Prelude.{◌≡◌, ◌≢◌, true, is_some, map, None, Ok, Err, IfOk, IfErr};
 ghost use Rattle.aa_text_files.specs.Files.{file_at};
@@ -11,21 +11,22 @@ use crate::splicer::Splicer;
 use aa_text_files::{Files, TextError, TextRefusal};
 use std::alloc::Global;
 
-/// How deep includes may stand in one another.
+/// How deep includes may be nested.
 pub const DEEPEST: usize = 16;
 
-/// The tokens of the file of that name, with those of the files that it includes in the place of each Include.
+/// Returns the tokens of the file of that name, each Include replaced by the tokens of the files that it includes. Tokens borrow the text of
+/// `files`.
 ///
 /// # Errors
 ///
-/// The first fault: those of a file's own text come before any of what it includes, and else one Include is read before the next.
-/// - `NoFile`: no file has the name, with no place; or nothing has the name of an Include without `if exists`, at the Include.
-/// - `TextTooBig`: more than 16,777,216 bytes are entered, each file's as often as it is. It is told at the Include that enters the
-///   file, and with no place where the first file alone has more.
-/// - `ZeroByte`: a file holds one, at the first.
+/// The first fault: faults of a file's own text come before any of what it includes, and Includes are read in order.
+/// - `NoFile`: no file has the name, with no place; or no file or folder has the name of an Include without `if exists`, at the Include.
+/// - `TextTooBig`: more than 16,777,216 bytes are entered, each file's as often as it is. The place is that of the Include that enters the file;
+///   there is none where the first file alone has more.
+/// - `ZeroByte`: a file holds a zero byte, at the first one.
 /// - `OpenQuote` and `OpenOther`: a file can't be cut into tokens, at the first such place.
-/// - `IncludeDepth`: an Include stands in 16 others, unless it puts in nothing.
-/// - `Memory`, with no place: memory ran out. That no file has the name is told without memory.
+/// - `IncludeDepth`: an Include is nested in 16 others, unless it includes nothing.
+/// - `Memory`, with no place: memory ran out. `NoFile` for `name` itself is returned without allocating.
 pub fn spliced<'a>(
     alloc: Global,
     files: &'a Files,

@@ -1,4 +1,4 @@
-//! What an Include puts in.
+//! Which files an Include names.
 
 ghost use Rattle.std.specs.Prelude.{◌≡◌, ◌++◌, ◌∷◌, [], IfOk};
 ghost use Rattle.aa_bytes.specs.Bytes.{slash};
@@ -8,7 +8,7 @@ ghost use Rattle.aa_text_tokens.specs.code.SplicingProgress.{folder_target, targ
 use aa_text_files::{Files, members};
 use std::alloc::{AllocError, Global};
 
-// The name that an Include looks up: as it is written, but for one `/` at its end.
+// The name that an Include looks up: as it is written, without one `/` at its end.
 fn looked_up(name: &[u8]) -> &[u8]
     ensures { result.now ≡ looked_up name.now }
 {
@@ -28,7 +28,7 @@ fn folder_name(alloc: Global, name: &[u8]) -> Result<Vec<u8>, AllocError>
     Ok(folder)
 }
 
-// What an Include puts in where nothing has its name.
+// The files of an Include where nothing has its name.
 fn without(alloc: Global, if_exists: bool) -> Option<Vec<usize>>
     ensures { target_of result ≡ without if_exists }
 {
@@ -39,7 +39,7 @@ fn without(alloc: Global, if_exists: bool) -> Option<Vec<usize>>
     }
 }
 
-// What an Include puts in where no file has its name.
+// The files of an Include where no file has its name: the members of a folder.
 fn folder_target(
     alloc: Global,
     files: &Files,
@@ -57,7 +57,7 @@ fn folder_target(
     }
 }
 
-/// The files that an Include puts in, in order, or nothing where its name is a fault.
+/// The indices of the files that an Include names, in order, or `None` where its name is a fault.
 ///
 /// # Errors
 ///

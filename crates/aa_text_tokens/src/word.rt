@@ -10,7 +10,7 @@ use crate::front::is_blank;
 use crate::piece::Piece;
 use crate::quoted::taken;
 
-// Whether a comma ends a word, from what follows it.
+// Whether a comma ends a word, by what follows the comma.
 fn ends_item(text: &[u8]) -> bool
     ensures { result ≡ ends_item text.now }
 {
@@ -20,14 +20,14 @@ fn ends_item(text: &[u8]) -> bool
     }
 }
 
-// Whether a word ends outside braces before this byte, which stands behind another and before a text.
+// Whether a word ends outside braces before this byte, by the byte before it and the text after it.
 fn ends_word(before: u8, byte: u8, after: &[u8]) -> bool
     ensures { result ≡ ends_word before byte after.now }
 {
     byte == b'}' || (byte == b'{' && before == b')') || (byte == b',' && ends_item(after))
 }
 
-// Whether a word goes on in a text, within so many braces and behind a byte.
+// Whether a word continues in a text, within so many braces and after this byte.
 fn goes_on(depth: usize, before: u8, text: &[u8]) -> bool
     ensures value { result ≡ goes_on depth before text.now }
     ensures some { result ≡ true → 0 < length text.now }
@@ -40,7 +40,7 @@ fn goes_on(depth: usize, before: u8, text: &[u8]) -> bool
     }
 }
 
-// How many braces are open behind a byte.
+// How many braces are open after a byte.
 fn depth_behind(depth: usize, byte: u8) -> usize
     requires { depth + 1 < 2 ^ 64 }
     ensures value { result ≡ depth_behind depth byte }
@@ -53,7 +53,7 @@ fn depth_behind(depth: usize, byte: u8) -> usize
     }
 }
 
-// How many bytes the word has that a text begins with, or nothing where it ends within braces.
+// How many bytes the word has with which a text begins; `None` where it ends within braces.
 fn word_size(text: &[u8]) -> Option<usize>
     ensures value { result ≡ word_left 0 0 text.now }
     ensures within { IfSome result (λ size. size ≤ length text.now) }
@@ -72,7 +72,7 @@ fn word_size(text: &[u8]) -> Option<usize>
     if depth == 0 { Some(size) } else { None }
 }
 
-/// The word that a text begins with.
+/// The word with which a text begins, or the fault that it ends within braces.
 pub fn read_word(text: &[u8]) -> Piece<'_>
     requires { begins starts_word text.now ≡ true }
     ensures value { seen_piece result ≡ word text.now }

@@ -1,4 +1,4 @@
--- Words that the law of cycles is said in.
+-- Definitions for the law of cycles.
 use Rattle.std.specs.Prelude.{ℕ, ◌≡◌, ◌↔◌, true, List, Some}
 use Rattle.std.specs.List.{Contains}
 use Rattle.aa_text_variables.specs.ExpansionLaws.{names_variable}

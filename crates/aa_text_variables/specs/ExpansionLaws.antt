@@ -1,4 +1,4 @@
--- Words that the laws of expansions are said in.
+-- Definitions for the laws of expansions.
 use Rattle.std.specs.Prelude.{ℕ, ◌≡◌, ◌<◌, Bool, true, false, List, length, flat_map, None, Some}
 use Rattle.std.specs.List.{list_all, list_any}
 use Rattle.std.specs.Str.{bytes_eq}

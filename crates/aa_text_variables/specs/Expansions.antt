@@ -1,4 +1,5 @@
--- Expansions: what the names in a text lead to, and the texts that come of putting values in (apparmor.d(5), "Variables"; see docs/policy.md, "Variables").
+-- Expansions: what the names in a text lead to, and the texts that result from choosing values (apparmor.d(5), "Variables"; see docs/policy.md,
+-- "Variables").
 use Rattle.std.specs.Prelude.{ℕ, zero, suc, Bool, true, ◌||◌, List, [], ◌∷◌, ◌++◌, length, flat_map, Option, None, Some, if◌then◌else◌}
 use Rattle.std.specs.List.{list_any}
 use Rattle.aa_text_expansion.specs.Choices.{choices}
@@ -7,7 +8,7 @@ use Rattle.aa_text_variables.specs.Variables.{Variable, named, names_undefined}
 use Rattle.aa_text_files.specs.declared.text_error.TextRefusal.{TextRefusal}
 use Rattle.aa_text_files.specs.declared.text_error.TextRefusal.TheVariants.{Undefined, Cycle}
 
--- the words of a variable: those of its first `=`, then those that were added
+-- the words of a variable: those of its first `=`, then those that were appended
 abbrev pub words_of : Variable → List (List ℕ)
 words_of variable = variable.defined ++ variable.added
 
@@ -28,12 +29,12 @@ words_behind_parts variables (Unclosed ∷ ps) = words_behind_parts variables ps
 abbrev pub words_behind : List Variable → List ℕ → List (List ℕ)
 words_behind variables text = words_behind_parts variables (parts text)
 
--- The values of a variable: the expansions of its words, in order, where each name leads on over so many variables at most.
+-- The values of a variable: the expansions of its words, in order, where each name leads through so many variables at most.
 abbrev pub values_within : List Variable → ℕ → List ℕ → List (List ℕ)
 values_within variables zero name = []
 values_within variables (suc depth) name = flat_map (λ word. choices (values_within variables depth) (parts word)) (words_named variables name)
 
--- A name that leads to no cycle leads over each variable once at most.
+-- A name that leads to no cycle leads through each variable once at most.
 abbrev pub values : List Variable → List ℕ → List (List ℕ)
 values variables name = values_within variables (length variables) name
 
@@ -41,7 +42,7 @@ values variables name = values_within variables (length variables) name
 abbrev pub expansions : List Variable → List ℕ → List (List ℕ)
 expansions variables text = choices (values variables) (parts text)
 
--- a text names a variable that isn't defined, or leads to a word that does, over so many variables at most
+-- a text names a variable that isn't defined, or leads to a word that does, through so many variables at most
 abbrev pub leads_to_undefined_within : List Variable → ℕ → List ℕ → Bool
 leads_to_undefined_within variables zero text = names_undefined variables text
 leads_to_undefined_within variables (suc depth) text =
@@ -50,13 +51,12 @@ leads_to_undefined_within variables (suc depth) text =
 abbrev pub leads_to_undefined : List Variable → List ℕ → Bool
 leads_to_undefined variables text = leads_to_undefined_within variables (length variables) text
 
--- So many variables stand one behind the other: the text names the first, and a word of each names the next.
+-- So many variables form a chain: the text names the first, and a word of each names the next.
 abbrev pub has_chain : List Variable → ℕ → List ℕ → Bool
 has_chain variables zero text = true
 has_chain variables (suc size) text = list_any (has_chain variables size) (words_behind variables text)
 
--- A text leads to a variable that leads to itself. Then a chain may be as long as you like; and one of more variables than there are has
--- one of them twice.
+-- A text leads to a variable that leads to itself. Then a chain may have any length; and one of more variables than there are has one of them twice.
 abbrev pub leads_to_cycle : List Variable → List ℕ → Bool
 leads_to_cycle variables text = has_chain variables (suc (length variables)) text
 

@@ -7,7 +7,7 @@ use Rattle.aa_text_expansion.specs.Parts.{Part, Byte, Name, Unclosed, parts}
 use Rattle.aa_text_files.specs.declared.text_error.TextRefusal.{TextRefusal}
 use Rattle.aa_text_files.specs.declared.text_error.TextRefusal.TheVariants.{Redefined, AppendUndefined}
 
--- A variable: its name, the values of its first `=`, and those that were added behind them.
+-- A variable: its name, the values of its first `=`, and those that were appended.
 pub record Variable : Type 0 where
   pub name : List ℕ
   pub defined : List (List ℕ)
@@ -29,7 +29,7 @@ have_distinct_names (variable ∷ variables) = not (is_defined variable.name var
 abbrev pub has_word : Variable → Bool
 has_word variable = not (is_empty variable.defined)
 
--- What any `=` and `+=` make of no variables: no name comes twice, and each variable has a word.
+-- What any `=` and `+=` make, beginning with no variables: no name comes twice, and each variable has a word.
 abbrev pub are_variables : List Variable → Bool
 are_variables variables = have_distinct_names variables && list_all has_word variables
 
@@ -46,7 +46,7 @@ after_define variables name words = elim (named name variables) [
   | Some variable ↦ if same_texts words variable.defined then Ok variables else Err Redefined
 ]
 
--- values put behind those of a name's variable
+-- values appended to those of a name's variable
 abbrev pub with_added : List ℕ → List (List ℕ) → List Variable → List Variable
 with_added name words [] = []
 with_added name words (variable ∷ variables) =
@@ -54,11 +54,11 @@ with_added name words (variable ∷ variables) =
     then record { name = variable.name; defined = variable.defined; added = variable.added ++ words } ∷ variables
     else variable ∷ with_added name words variables
 
--- `+=` puts values behind those that are there; it wants an earlier `=`.
+-- `+=` appends values to those that are there; it requires an earlier `=`.
 abbrev pub after_append : List Variable → List ℕ → List (List ℕ) → Result (List Variable) TextRefusal
 after_append variables name words = if is_defined name variables then Ok (with_added name words variables) else Err AppendUndefined
 
--- a part that no variable stands for
+-- a part for which there is no variable
 abbrev pub is_undefined : List Variable → Part → Bool
 is_undefined variables (Byte b) = false
 is_undefined variables (Name name) = not (is_defined name variables)

@@ -1,4 +1,4 @@
--- What is about the code: variables by their indexes, the orders and tables that expansions are worked out by, and how far that has come.
+-- What is about the code: variables by their indices, the orders and tables by which expansions are computed, and how far that has come.
 pub mod Columns
 pub mod ExpansionOrder
 pub mod ExpansionTables

@@ -1,4 +1,4 @@
-//! What holds of variables and expansions, as laws over their definitions.
+//! Properties of variables and expansions, as laws over their definitions.
 
 ghost use Rattle.std.specs.Prelude.{◌≡◌, ℕ, true, false, ◌↔◌, List, ◌∷◌, [], None, find, length};
 ghost use Rattle.aa_text_variables.specs.CycleLaws.{HasAnyChain, IsCyclicByWord, IsOneOf, ReachesCycle};
@@ -18,8 +18,8 @@ pub fn what_a_text_leads_to()
         → leads_to_cycle variables text ≡ false }
 {}
 
-/// A chain of more variables than there are is a cycle: a text has one exactly where it leads to some variable that leads to itself. Then it
-/// has chains of any length. A variable is cyclic exactly where one of its words leads to some variable that leads to itself.
+/// A chain of more variables than there are is a cycle: a text has such a chain exactly where it leads to some variable that leads to itself, and it
+/// then has chains of any length. A variable is cyclic exactly where one of its words leads to some variable that leads to itself.
 pub fn what_a_cycle_is()
     ensures chain_of_all_leads_to_a_cyclic_variable { (variables : List Variable) (text : List ℕ)
         → (leads_to_cycle variables text ≡ true) ↔ ReachesCycle variables text }

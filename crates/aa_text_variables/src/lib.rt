@@ -1,4 +1,5 @@
-//! Variables: what `=` and `+=` do to them, what a text leads to, and how texts expand.
+//! Variables of profile files: what `=` and `+=` do to them, which variables a text leads to, and the expansions of a text. Use `Variables` for a
+//! few texts, and an `ExpansionTable` for many.
 #![tactic(auto)]
 
 mod laws;

@@ -1,4 +1,4 @@
-//! The variables that a profile's text defines, by name.
+//! The variables that a profile file defines, by name.
 
 ghost use Rattle.std.specs.Prelude.{◌≡◌, ◌≢◌, ◌<◌, ◌++◌, ◌∷◌, [], true, false, length, map, Ok, Err, None, IfOk, IfErr, OnOk, OnErr};
 ghost use Rattle.std.specs.Prelude.{option_map, slice_get};
@@ -13,7 +13,7 @@ use std::alloc::{AllocError, Global};
 use std::collections::BTreeMap;
 use std::marker::Model;
 
-// The values of a variable: those of its first `=`, and those that were added behind them.
+// The values of a variable: the words of its first `=`, and those that `+=` appended.
 #[derive(Drop)]
 struct Values {
     defined: Sequence<Sequence<u8>>,
@@ -27,7 +27,7 @@ struct Values {
 pub struct Variables {
     // Their names and values.
     entries: Vec<(Vec<u8>, Values)>,
-    // How many others were defined before that of a name.
+    // The index of the variable of each name.
     places: BTreeMap<Vec<u8>, usize>,
 }
 
@@ -43,7 +43,7 @@ impl Model for Variables {
     ghost invariant = { λ v. AreKept v.entries.items v.places.entries };
 }
 
-// Puts a copy of a word behind others.
+// Appends a copy of a word to a list.
 fn push_copy(copies: &mut Vec<Sequence<u8>>, word: &[u8]) -> Result<(), AllocError>
     ensures { OnOk result (copies.new.items ≡ copies.old.items ++ word.now ∷ []) }
 {
@@ -52,7 +52,7 @@ fn push_copy(copies: &mut Vec<Sequence<u8>>, word: &[u8]) -> Result<(), AllocErr
     Ok(())
 }
 
-// Equal words, in memory of their own.
+// Copies of words.
 fn copied_words(alloc: Global, words: &[&[u8]]) -> Result<Sequence<Sequence<u8>>, AllocError>
     ensures { IfOk result (λ copies. copies ≡ map (λ w. w.now) words.now) }
 {
@@ -63,7 +63,7 @@ fn copied_words(alloc: Global, words: &[&[u8]]) -> Result<Sequence<Sequence<u8>>
     Ok(Sequence::from_vec(copies))
 }
 
-// An entry for a name, where nothing was added to its words yet.
+// An entry for a name with copies of these words, and nothing appended yet.
 fn entry_of(alloc: Global, name: &[u8], words: &[&[u8]]) -> Result<(Vec<u8>, Values), AllocError>
     ensures { IfOk result (λ entry. as_variable entry ≡ record { name = name.now; defined = map (λ w. w.now) words.now; added = [] }) }
 {
@@ -78,7 +78,7 @@ fn entry_of(alloc: Global, name: &[u8], words: &[&[u8]]) -> Result<(Vec<u8>, Val
     ))
 }
 
-// Puts the place of a name's variable among those of others.
+// Adds the index of a name's variable.
 fn put(
     alloc: Global,
     places: &mut BTreeMap<Vec<u8>, usize>,
@@ -93,7 +93,7 @@ fn put(
     Ok(())
 }
 
-// Whether words are the same as others, in the same order.
+// Whether two lists have the same words, in the same order.
 fn are_same(words: &[&[u8]], others: &[Sequence<u8>]) -> bool
     ensures { result ≡ same_texts (map (λ w. w.now) words.now) others.now }
 {
@@ -113,7 +113,7 @@ fn are_same(words: &[&[u8]], others: &[Sequence<u8>]) -> bool
 }
 
 impl Variables {
-    /// No variables, on an allocator from which each later one takes its memory. It takes none itself.
+    /// No variables, with an allocator from which each later one takes memory. It takes none itself.
     pub fn new(alloc: Global) -> Variables
         ensures { result ≡ [] }
     {
@@ -123,8 +123,7 @@ impl Variables {
         }
     }
 
-    /// The name of the variable before which so many others were defined, or nothing where there are no more than that. It takes no
-    /// memory.
+    /// The name of the variable at an index, in the order of first definitions, or `None` where none has this index. It takes no memory; `O(1)`.
     pub fn name(&self, index: usize) -> Option<&[u8]>
         ensures { option_map (λ name. name.now) result ≡ option_map (λ variable. variable.name) (slice_get self.now index) }
     {
@@ -134,13 +133,13 @@ impl Variables {
         }
     }
 
-    /// What `=` does: defines a variable with these words, behind those that are there.
+    /// What `=` does: defines a variable with copies of these words, after those that are there.
     ///
-    /// Where the variable is defined with the same words already, nothing changes, whatever was added to it.
+    /// Where the variable is defined with the same words already, nothing changes, whatever was appended to it.
     ///
     /// # Errors
     ///
-    /// The first of these that applies, without a place. The variables are then as they were.
+    /// The first of these that applies, without a place. The variables are then unchanged.
     /// - `Redefined`: the variable is defined with other words.
     /// - `Memory`: memory ran out for a variable that isn't defined.
     pub fn define(&mut self, name: &[u8], words: &[&[u8]]) -> Result<(), TextError>
@@ -185,11 +184,11 @@ impl Variables {
         }
     }
 
-    /// What `+=` does: adds these words behind those of a variable.
+    /// What `+=` does: appends copies of these words to those of a variable.
     ///
     /// # Errors
     ///
-    /// The first of these that applies, without a place. The variables are then as they were.
+    /// The first of these that applies, without a place. The variables are then unchanged.
     /// - `AppendUndefined`: the variable isn't defined.
     /// - `Memory`: memory ran out for the words of one that is.
     pub fn append(&mut self, name: &[u8], words: &[&[u8]]) -> Result<(), TextError>

@@ -1,5 +1,4 @@
-//! Answers requests to a set of AppArmor profiles, from the files that the arguments name and the commands on
-//! standard input.
+//! Answers requests to a set of AppArmor profiles, from the files that the arguments name and the commands on standard input.
 #![tactic(auto)]
 
 use aa_set::{FromRead, ToWrite};
@@ -17,7 +16,7 @@ fn words_of_start<R: Env + AllocGlobal>(rt: &R) -> Result<Vec<String>, Fault> {
     }
 }
 
-// Nothing stands between the reader and the terminal, or between a writer and the terminal.
+// No buffer is between the reader and the terminal, or between a writer and the terminal.
 fn main(rt: HostRuntime) -> ExitCode {
     let status = aaset_program::start(
         rt.alloc(),

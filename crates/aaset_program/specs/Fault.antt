@@ -8,7 +8,7 @@ use Rattle.aaset_program.specs.declared.fault.Fault.{Fault}
 use Rattle.aaset_program.specs.declared.fault.Fault.TheVariants.{BadArguments, Untaken, NoMemory, Read, Write}
 use Rattle.aaset_program.specs.declared.fault.FaultText.{FaultText}
 
--- what standard error is told of a fault, on a line of its own
+-- the message of a fault on standard error, on a line of its own
 abbrev pub text_of : Fault → List ℕ
 text_of BadArguments = codes "aaset: bad arguments"
 text_of (Untaken name) = codes "aaset: cannot take " ++ string_bytes name

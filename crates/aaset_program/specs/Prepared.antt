@@ -20,8 +20,8 @@ pub record AreFilesOf (known : Known) (run : Run) (files : List File) : Type 0 w
   pub takable : All IsTakable files
   pub read : All (IsReadBelow known run.base) files
 
--- What is asked for is prepared: of a run its files, its language and its mode, or its first name that can't be taken; help and the version are texts to be
--- shown, and all else is bad. Memory may run out at any time.
+-- What is asked for is prepared: for a run its files, its language and its mode, or its first name that can't be taken; help and the version are
+-- texts to be written, and all else is bad. Memory may run out at any time.
 abbrev pub IsPrepared : Known → Asked → Result Ready Stop → Type 0
 IsPrepared known (ForRun run) (Ok ready) =
     AreFilesOf known run ready.files × (word_of ready.language ≡ run.language) × (ready.force_complain ≡ run.force_complain)

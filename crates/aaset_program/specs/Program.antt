@@ -24,13 +24,13 @@ pub record IsReported (fault : Fault) (errors : Writes) (status : ℕ) : Type 0 
   pub line : IsWritten (line_of (text_of fault)) errors
   pub by_status : status ≡ status_of fault
 
--- a text stands on standard output, and nothing else was reported
+-- a text is on standard output, and nothing else was reported
 pub record IsWhole (text : List ℕ) (output errors : Writes) (status : ℕ) : Type 0 where
   pub text_written : Appends output.before output.after text
   pub silent : IsUnwritten errors
   pub fine : status ≡ 0
 
--- a text is shown, or standard output failed, and that is reported
+-- a text is written, or standard output failed, and that is reported
 abbrev pub IsShown : List ℕ → Writes → Writes → ℕ → Type 0
 IsShown text output errors status = IsWhole text output errors status ⊎ ((output.failed ≡ true) × IsReported Write errors status)
 
@@ -38,8 +38,8 @@ IsShown text output errors status = IsWhole text output errors status ⊎ ((outp
 abbrev pub begun : Ready → Managed
 begun ready = new_manager_in ready.language ready.force_complain
 
--- All commands of standard input were answered, by the machine that keeps whole policy sets, over the files, by the language and in the mode that are
--- ready. The status tells whether some command was refused.
+-- All commands of standard input were answered, by the machine that keeps whole policy sets, over the files, by the language and in the mode that
+-- are ready. The status shows whether some command was refused.
 pub record AreAnswered (ready : Ready) (input : Reads) (output errors : Writes) (status : ℕ) : Type 0 where
   pub summary : Summary
   pub answered : IsLeftAnswered ready.files (begun ready) input.before output.before output.after summary
@@ -49,19 +49,19 @@ pub record AreAnswered (ready : Ready) (input : Reads) (output errors : Writes) 
   pub silent : IsUnwritten errors
   pub by_refusals : status ≡ (if summary.refused == 0 then 0 else 1)
 
--- reads came to as many as a run makes, none to the end, and each gave at least one byte
+-- there were as many reads as a run makes, none at the end, and each gave at least one byte
 pub record IsEndless (input : Reads) : Type 0 where
   pub all_made : input.reads_after ≡ input.reads_before + most_reads
   pub going : input.ended_after ≡ input.ended_before
   pub given : HasGiven most_reads input.before input.after
 
--- what a fault of a run comes from
+-- the cause of a fault of a run
 abbrev pub IsCause : RunFault → Reads → Writes → Type 0
 IsCause run.Read input output = (input.failed ≡ true) ⊎ IsEndless input
 IsCause run.Write input output = output.failed ≡ true
 IsCause run.Memory input output = IsUnread input × IsUnwritten output
 
--- What stands on standard output after a fault: the replies to the whole lines that were read, a front of the replies to what was read, or nothing.
+-- What is on standard output after a fault: the replies to the whole lines that were read, a prefix of the replies to what was read, or nothing.
 abbrev pub StandsAfter : RunFault → Ready → Reads → Writes → Type 0
 StandsAfter run.Read ready input output = HoldsOfRead input.before input.after (IsAnsweredSoFar ready.files (begun ready) output.before output.after)
 StandsAfter run.Write ready input output = HoldsOfRead input.before input.after (IsFrontAnswered ready.files (begun ready) output.before output.after)
@@ -78,7 +78,7 @@ pub record IsBroken (ready : Ready) (input : Reads) (output errors : Writes) (st
 abbrev pub IsRun : Ready → Reads → Writes → Writes → ℕ → Type 0
 IsRun ready input output errors status = AreAnswered ready input output errors status ⊎ IsBroken ready input output errors status
 
--- What is done of what was prepared: commands are answered, a text is shown, or a fault is reported, and then nothing was read or answered.
+-- What is done with what was prepared: commands are answered, a text is written, or a fault is reported, and then nothing was read or answered.
 abbrev pub IsPerformed : Result Ready Stop → Reads → Writes → Writes → ℕ → Type 0
 IsPerformed (Ok ready) input output errors status = IsRun ready input output errors status
 IsPerformed (Err (Shown text)) input output errors status = IsUnread input × IsShown (string_bytes text) output errors status

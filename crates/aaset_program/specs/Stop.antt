@@ -7,7 +7,7 @@ use Rattle.aa_start.specs.declared.fault.ArgumentFault.TheVariants as arguments
 use Rattle.aa_start.specs.declared.gathering.GatherFault.{GatherFault}
 use Rattle.aa_start.specs.declared.gathering.GatherFault.TheVariants as files
 
--- arguments that ask for no run: a text that was asked for is shown
+-- arguments that ask for no run: a text that was asked for is written
 abbrev pub stop_at_arguments : ArgumentFault → Stop
 stop_at_arguments (arguments.Help text) = Shown text
 stop_at_arguments (arguments.Version text) = Shown text

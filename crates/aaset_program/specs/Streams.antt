@@ -2,7 +2,7 @@
 use Rattle.std.specs.Prelude.{◌≡◌, ℕ, Bool, false, List, Option}
 use Rattle.std.specs.Io.KnownBytes.{Appends}
 
--- a stream that is read: the bytes that it had left and has, where they are known, how many reads there were, whether one had come to the end and
+-- a stream that is read: the bytes that it still had and has, where they are known, how many reads there were, whether one had reached the end and
 -- has, and whether one failed
 pub record Reads : Type 0 where
   pub before : Option (List ℕ)
@@ -13,7 +13,7 @@ pub record Reads : Type 0 where
   pub ended_after : Bool
   pub failed : Bool
 
--- a stream that is written: the bytes that it had got and has, where they are known, and whether a write failed
+-- a stream that is written: the bytes that were written to it before and by now, where they are known, and whether a write failed
 pub record Writes : Type 0 where
   pub before : Option (List ℕ)
   pub after : Option (List ℕ)

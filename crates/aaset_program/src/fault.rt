@@ -1,4 +1,4 @@
-//! What keeps the program from answering each command: what standard error is told of it, and the exit status.
+//! What keeps the program from answering each command: its message on standard error, and the exit status.
 ghost use Rattle.std.specs.Prelude.{◌≡◌};
 ghost use Rattle.std.specs.IoError.{error_kind};
 ghost use Rattle.aaset_program.specs.Fault.{text_of, joined, status_of, fault_of_run, fault_of_words};
@@ -9,7 +9,7 @@ use std::io;
 /// What keeps the program from answering each command.
 #[derive(Drop)]
 pub enum Fault {
-    /// The arguments ask for something that there isn't, or name no file.
+    /// The arguments ask for something that doesn't exist, or name no file.
     BadArguments,
     /// The first NAME that can't be taken.
     Untaken(String),
@@ -43,16 +43,16 @@ pub fn fault_of_words(error: &io::Error) -> Fault
     }
 }
 
-/// What standard error is told of a fault.
+/// The message of a fault on standard error.
 #[derive(Clone, Copy)]
 pub struct FaultText<'a> {
-    /// The words that tell the fault.
+    /// The words of the fault.
     pub words: &'static str,
-    /// The NAME that stands behind them. It is empty where the fault is about none.
+    /// The NAME that follows them. It is empty where the fault is about none.
     pub name: &'a str,
 }
 
-/// What standard error is told of a fault, without the line's end.
+/// The message of a fault on standard error, without the line's end.
 pub fn fault_text(fault: &Fault) -> FaultText<'_>
     ensures { joined result ≡ text_of fault.now }
 {
@@ -68,7 +68,7 @@ pub fn fault_text(fault: &Fault) -> FaultText<'_>
     }
 }
 
-// A text of words alone.
+// A message of words alone.
 fn plain<'a>(words: &'static str) -> FaultText<'a>
     ensures { joined result ≡ words.now }
 {

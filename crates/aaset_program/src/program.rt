@@ -46,7 +46,7 @@ fn answer<S: Source, W: Sink, E: Sink>(
     }
 }
 
-// Does what was prepared: answers commands, shows a text, or reports a fault.
+// Does what was prepared: answers commands, writes a text, or reports a fault.
 fn perform<S: Source, W: Sink, E: Sink>(
     alloc: Global,
     prepared: Result<Ready, Stop>,
@@ -70,14 +70,14 @@ fn perform<S: Source, W: Sink, E: Sink>(
     }
 }
 
-/// Does what the words of the program's start ask for, and gives the exit status. The first word is the program's own name; where the words
-/// can't be had, `words` is the fault to be reported.
+/// Does what the words of the program's start ask for, and returns the exit status. The first word is the program's own name; where the words can't
+/// be had, `words` is the fault to be reported.
 ///
-/// A text that is asked for, help or the version, is written to `output`. Of a run the files are taken from `disk`, and then the
-/// commands of `input` are answered on `output`, each before the next is read. The status is 0 where the text was shown or no command was
-/// refused, and 1 where some command was. A fault is reported on `errors`, on a line of its own, without memory, and its status is 2 where the
-/// arguments or a NAME are no good, and 3 where a stream or memory failed; before the first command is read, nothing is written to `output`
-/// then. Where `errors` fails, the status alone reports the fault.
+/// A text that is asked for, help or the version, is written to `output`. For a run the files are read from `disk`, and then the commands of `input`
+/// are answered on `output`, each before the next is read. The status is 0 where the text was written or no command was refused, and 1 where some
+/// command was. A fault is reported on `errors`, on a line of its own, without allocating, and its status is 2 where the arguments or a NAME are no
+/// good, and 3 where a stream or memory failed; before the first command is read, nothing is written to `output` then. Where `errors` fails, only
+/// the status reports the fault.
 pub fn start<D: FileSystem, S: Source, W: Sink, E: Sink>(
     alloc: Global,
     words: Result<Vec<String>, Fault>,

@@ -18,11 +18,11 @@ pub struct Ready {
     pub files: Files,
     /// The language by which they are read.
     pub language: Language,
-    /// Whether each profile is taken as one in complain mode, whatever its flags say.
+    /// Whether each profile is loaded in complain mode, whatever its flags are.
     pub force_complain: bool,
 }
 
-// Takes the files of a plan.
+// Reads the files of a plan.
 fn gather<D: FileSystem>(alloc: Global, plan: Plan, disk: &D) -> Result<Ready, Stop>
     ensures { IsPrepared (D.known disk.now) (ForRun (run_of plan)) result }
 {
@@ -40,7 +40,7 @@ fn gather<D: FileSystem>(alloc: Global, plan: Plan, disk: &D) -> Result<Ready, S
     })
 }
 
-// Takes the files that the words of the start ask for, the first of which is the program's own name.
+// Reads the files that the words of the start ask for, the first of which is the program's own name.
 fn prepare_for<D: FileSystem>(alloc: Global, words: &[String], disk: &D) -> Result<Ready, Stop>
     ensures { IsPrepared (D.known disk.now) (asked (drop 1 (map string_bytes words.now))) result }
 {
@@ -48,7 +48,7 @@ fn prepare_for<D: FileSystem>(alloc: Global, words: &[String], disk: &D) -> Resu
     gather(alloc, plan, disk)
 }
 
-// Takes the files that the words of the start ask for, where these words are there.
+// Reads the files that the words of the start ask for, where these words are there.
 pub fn prepare<D: FileSystem>(
     alloc: Global,
     words: Result<Vec<String>, Fault>,

@@ -20,7 +20,7 @@ fn write_line<E: Sink>(errors: &mut E, text: FaultText<'_>) -> Result<(), Failed
     write_all(errors, b"\n")
 }
 
-// Reports a fault on standard error, and gives its exit status, which alone reports it where that can't be written.
+// Reports a fault on standard error, and returns its exit status, which alone reports it where that can't be written.
 pub fn report<E: Sink>(errors: &mut E, fault: &Fault) -> u8
     ensures { IsReported fault.now (written_to (E.written errors.old) (E.written errors.new) (E.failed errors.new)) result }
 {
@@ -28,7 +28,7 @@ pub fn report<E: Sink>(errors: &mut E, fault: &Fault) -> u8
     fault_status(fault)
 }
 
-// Shows a text that was asked for.
+// Writes a text that was asked for, and returns the exit status.
 pub fn show<W: Sink, E: Sink>(text: &str, output: &mut W, errors: &mut E) -> u8
     ensures { IsShown text.now (written_to (W.written output.old) (W.written output.new) (W.failed output.new))
         (written_to (E.written errors.old) (E.written errors.new) (E.failed errors.new)) result }

@@ -1,5 +1,5 @@
--- Each abstraction of a folder, read as a profile reads it: by a file of its own that includes it, and ahead of that the variables that stock policy's
--- profiles begin with (docs/aatry.md, "`aatry log`").
+-- Each abstraction of a folder, read as a profile reads it: by a file of its own that includes it, after the variables with which stock policy's
+-- profiles begin (docs/aatry.md, "`aatry log`").
 use Rattle.std.specs.Prelude.{ℕ, Bool, false, ◌&&◌, ◌||◌, not, if◌then◌else◌, List, [], ◌∷◌, ◌++◌, Option, None, Some, Result, Ok, Err, codes, flat_map, fold}
 use Rattle.aa_bytes.specs.Texts.{begins_with}
 use Rattle.aa_profile.specs.FileReading.{file_profiles_in}
@@ -8,12 +8,13 @@ use Rattle.aa_profile_parsing.specs.declared.profile_error.ProfileError.{Profile
 use Rattle.aa_profile_parsing.specs.declared.language.Language.{Language}
 use Rattle.aa_text_files.specs.Files.{File, has_file, is_bad_file, is_folder_name}
 
--- A name leads through a folder of additions, one whose own name ends in `.d`: what lies in `base.d/` is put in by `base`, and isn't to be included by itself.
+-- A name leads through a folder of additions, whose own name ends in `.d`: what lies in `base.d/` is included by `base`, and isn't to be included by
+-- itself.
 abbrev pub is_addition : List ℕ → Bool
 is_addition [] = false
 is_addition (b ∷ bs) = begins_with (codes ".d/") (b ∷ bs) || is_addition bs
 
--- a file is an abstraction: it lies below that folder, and is no addition
+-- a file is an abstraction: it lies below `abstractions/`, and is no addition
 abbrev pub is_abstraction : List ℕ → Bool
 is_abstraction name = begins_with (codes "abstractions/") name && not (is_folder_name name) && not (is_addition name)
 
@@ -42,15 +43,15 @@ probe_of files file = if is_abstraction file.0 then probe files file.0 ∷ [] el
 abbrev pub probes : List File → List File
 probes files = flat_map (probe_of files) files
 
--- a file behind others, where it can stand there
+-- files with one more after them, if it can be inserted
 abbrev pub with_file : List File → File → List File
 with_file files file = if is_bad_file file.0 file.1 || has_file files file.0 then files else files ++ file ∷ []
 
--- files, each behind the others where it can stand there
+-- files with more after them, as far as these can be inserted
 abbrev pub with_files : List File → List File → List File
 with_files files more = fold with_file files more
 
--- the files of a folder, and behind them the probe of each abstraction
+-- the files of a folder, followed by the probe of each abstraction
 abbrev pub probed : List File → List File
 probed files = with_files (with_files [] files) (probes files)
 

@@ -1,4 +1,4 @@
-//! Which abstractions let which requests.
+//! Which abstractions allow which requests.
 
 ghost use Rattle.std.specs.Prelude.{◌≡◌, ◌++◌, [], IfOk, OnOk, map, option_map};
 ghost use Rattle.aa_profile_data.specs.SeenRequests.{request_of};
@@ -11,14 +11,14 @@ use aa_profile_parsing::Language;
 use aa_text_files::Files;
 use std::alloc::{AllocError, Global};
 
-/// An abstraction that lets some requests.
+/// An abstraction that allows some requests.
 #[derive(Drop)]
 pub struct LettingAbstraction {
     /// Its name in the folder.
     pub name: Vec<u8>,
     /// How many rules it has, each expansion counted.
     pub size: usize,
-    /// The places of the requests that it lets, from 0, in their order. There is at least one.
+    /// The indexes of the requests that it allows, from 0, in their order. There is at least one.
     pub places: Vec<usize>,
 }
 
@@ -32,7 +32,7 @@ fn is_allow(answer: Answer) -> bool
     }
 }
 
-// Remembers what follows at the places of a request's path, so that it is found sooner.
+// Remembers which states are live at the places of a request's path (`Ready::remember`), so that the next look at it is quicker.
 fn remember(alloc: Global, profile: &mut Ready, request: &Request<'_>)
     ensures { profile.new ≡ profile.old }
 {
@@ -53,7 +53,7 @@ fn lets(alloc: Global, profile: &mut Ready, request: &Request<'_>) -> Result<boo
     Ok(is_allow(verdict.answer))
 }
 
-// The places of the requests that a profile lets.
+// The indexes of the requests that a profile allows.
 fn places_let(
     alloc: Global,
     profile: &mut Ready,
@@ -74,7 +74,7 @@ fn places_let(
     Ok(places)
 }
 
-// Appends an abstraction to others, if it lets any of the requests.
+// Appends an abstraction to the found ones, if it allows any of the requests.
 fn push_letting(
     alloc: Global,
     name: &[u8],
@@ -92,7 +92,7 @@ fn push_letting(
     Ok(())
 }
 
-// The same, if it can be read.
+// Appends an abstraction to the found ones, if it can be read and allows any of the requests.
 fn push_read(
     alloc: Global,
     name: &[u8],
@@ -112,7 +112,7 @@ fn push_read(
     push_letting(alloc, name, size, places, found)
 }
 
-// Appends a file to others, if it is an abstraction that lets any of the requests.
+// Appends a file to the found abstractions, if it is an abstraction that allows any of the requests.
 fn push_file(
     alloc: Global,
     language: Language,
@@ -131,7 +131,7 @@ fn push_file(
     push_read(alloc, name, requests, profile, found)
 }
 
-// The abstractions of a folder's files that let any of some requests, in the order of the files.
+// The abstractions of a folder's files that allow any of some requests, in the order of the files.
 fn all_letting(
     alloc: Global,
     language: Language,
@@ -155,9 +155,9 @@ fn all_letting(
     Ok(found)
 }
 
-/// The abstractions of a folder's files that let any of some requests by their own rules, those first that have the fewest rules. Each is read by a language
-/// as a profile reads it that includes it, and ahead of it `tunables/global`, where the folder has that; one that is refused so is passed over. What lies in a
-/// folder of additions, as `abstractions/base.d/`, is none.
+/// The abstractions of a folder's files that allow any of some requests by their own rules, ordered by how many rules they have, the fewest first.
+/// Each is read by a language as by a profile that includes it, after `tunables/global`, where the folder has that; an abstraction that is refused
+/// there is passed over. Files in a folder of additions, such as `abstractions/base.d/`, are no abstractions.
 ///
 /// # Errors
 ///

@@ -1,4 +1,4 @@
-//! The abstractions of a folder of policy, and which requests each of them lets by its own rules.
+//! The abstractions of a folder of policy, and which requests each of them allows by its own rules.
 #![tactic(auto)]
 
 mod letting;

@@ -1,4 +1,4 @@
-//! Each abstraction of a folder, read as a profile reads it: by a file of its own that includes it.
+//! Each abstraction of a folder, read as a profile reads it: by a probe, a file of its own that includes it.
 
 ghost use Rattle.std.specs.Prelude.{◌≡◌, ◌++◌, ◌∷◌, [], true, IfOk, IfSome, Ok, OnOk, option_map};
 ghost use Rattle.aatry_abstractions.specs.Probes.{abstraction, is_abstraction, is_addition, only_profile, preamble, probe, probe_name, probe_of, probe_text, probed, probes, with_file, with_files};
@@ -16,7 +16,7 @@ use std::alloc::{AllocError, Global};
 // The file with which stock policy's profiles begin.
 const TUNABLES: &[u8] = b"tunables/global";
 
-// Whether a name leads through a folder of additions, as `base.d/` has them for `base`.
+// Whether a name leads through a folder of additions, such as `base.d/` for `base`.
 fn is_addition(name: &[u8]) -> bool
     ensures { result ≡ is_addition name.now }
 {
@@ -30,14 +30,15 @@ fn is_addition(name: &[u8]) -> bool
     false
 }
 
-/// Whether a file is an abstraction, by its name: what lies in a folder of additions, as `abstractions/base.d/x`, is none. It takes no memory.
+/// Whether a file is an abstraction, by its name: a file in a folder of additions, such as `abstractions/base.d/x`, is none. `O(n)` in the name's
+/// length. It takes no memory.
 pub fn is_abstraction(name: &[u8]) -> bool
     ensures { result ≡ is_abstraction name.now }
 {
     begins_with(b"abstractions/", name) && !Files::is_folder(name) && !is_addition(name)
 }
 
-/// Appends the include of the variables that stock policy's profiles begin with to a text, where the folder has them.
+/// Appends the include of the variables, with which stock policy's profiles begin, to a text, where the folder has them.
 ///
 /// # Errors
 ///
@@ -51,7 +52,7 @@ pub fn push_preamble(files: &Files, out: &mut Vec<u8>) -> Result<(), AllocError>
     Ok(())
 }
 
-// The name of the file that includes an abstraction.
+// The name of the probe of an abstraction.
 fn probe_name(alloc: Global, name: &[u8]) -> Result<Vec<u8>, AllocError>
     ensures { IfOk result (λ made. made.items ≡ probe_name name.now) }
 {
@@ -60,7 +61,7 @@ fn probe_name(alloc: Global, name: &[u8]) -> Result<Vec<u8>, AllocError>
     Ok(made)
 }
 
-// Its text.
+// The text of the probe of an abstraction.
 fn probe_text(alloc: Global, files: &Files, name: &[u8]) -> Result<Vec<u8>, AllocError>
     ensures { IfOk result (λ text. text.items ≡ probe_text files.now name.now) }
 {
@@ -72,7 +73,7 @@ fn probe_text(alloc: Global, files: &Files, name: &[u8]) -> Result<Vec<u8>, Allo
     Ok(text)
 }
 
-/// Puts a file behind others, where it can stand there.
+/// Inserts a file after the others, where it can be inserted (`Files::insert`).
 ///
 /// # Errors
 ///
@@ -88,7 +89,7 @@ pub fn put(files: &mut Files, name: Vec<u8>, bytes: Vec<u8>) -> Result<(), Alloc
     }
 }
 
-// Puts a copy of a file behind others, where it can stand there.
+// Inserts a copy of a file after the others, where it can be inserted.
 fn put_copy(alloc: Global, name: &[u8], bytes: &[u8], into: &mut Files) -> Result<(), AllocError>
     ensures { OnOk result (into.new ≡ with_file into.old (name.now, bytes.now)) }
 {
@@ -117,7 +118,7 @@ pub fn copied(alloc: Global, files: &Files) -> Result<Files, AllocError>
     Ok(copies)
 }
 
-// Puts the probe of a file behind others, if the file is an abstraction.
+// Inserts the probe of a file after the others, if the file is an abstraction.
 fn put_probe(alloc: Global, files: &Files, name: &[u8], into: &mut Files) -> Result<(), AllocError>
     ensures { OnOk result (into.new ≡ with_files into.old (probe_of files.now (name.now, []))) }
 {
@@ -128,7 +129,7 @@ fn put_probe(alloc: Global, files: &Files, name: &[u8], into: &mut Files) -> Res
     put(into, probe_name(alloc, name)?, text)
 }
 
-/// The files of a folder, and behind them for each abstraction a file that includes it.
+/// The files of a folder, followed by the probe of each abstraction.
 ///
 /// # Errors
 ///
@@ -143,7 +144,7 @@ pub fn probed(alloc: Global, files: &Files) -> Result<Files, AllocError>
     Ok(made)
 }
 
-/// The profile of a file that has one alone. It takes no memory.
+/// The profile of a file that has only one. It takes no memory.
 pub fn only_profile(profiles: Vec<Profile>) -> Option<Profile>
     ensures { result ≡ only_profile (Ok profiles.items) }
 {
@@ -152,7 +153,7 @@ pub fn only_profile(profiles: Vec<Profile>) -> Option<Profile>
     if left.is_empty() { last } else { None }
 }
 
-// The same, made ready for requests.
+// A profile, made ready for requests.
 fn ready(alloc: Global, profile: Option<Profile>) -> Result<Option<Ready>, AllocError>
     requires { IfSome profile (λ profile. profile_agrees profile ≡ true) }
     ensures { IfOk result (λ made. option_map (λ ready. ready) made ≡ profile) }
@@ -163,7 +164,7 @@ fn ready(alloc: Global, profile: Option<Profile>) -> Result<Option<Ready>, Alloc
     }
 }
 
-/// An abstraction as a profile has it, ready for requests, if it can be read: of files with a probe for each (`probed`).
+/// An abstraction as a profile has it, ready for requests, if it can be read: from files with a probe for each abstraction (`probed`).
 ///
 /// # Errors
 ///

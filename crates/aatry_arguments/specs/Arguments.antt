@@ -28,25 +28,25 @@ pub data CommandAsked : Type 0 where
   ForDiffAll : PathComparisonAsked → CommandAsked
   ForSession : SessionAsked → CommandAsked
 
--- a word that asks for help in the place of a command
+-- a word that asks for help in place of a command
 abbrev pub is_help_word : List ℕ → Bool
 is_help_word word = bytes_eq word (codes "-h") || bytes_eq word (codes "--help")
 
--- a word that asks for the version in the place of a command
+-- a word that asks for the version in place of a command
 abbrev pub is_version_word : List ℕ → Bool
 is_version_word word = bytes_eq word (codes "-V") || bytes_eq word (codes "--version")
 
--- what the words behind `diff` ask for: a comparison for all paths, where the flag is among them, and else one of profiles and requests
+-- what the words after `diff` ask for: a comparison for all paths, where the flag is among them, and else one of profiles and requests
 abbrev pub asked_diffs : List (List ℕ) → Asked CommandAsked
 asked_diffs words =
     if is_given all_flag words then asked_as ForDiffAll (asked_all (without_flag all_flag words)) else asked_as ForDiff (asked_diff words)
 
--- what the words behind `check` ask for: which rules decide nothing, where the flag is among them, and else for a check of files
+-- what the words after `check` ask for: which rules decide nothing, where the flag is among them, and else for a check of files
 abbrev pub asked_checks : List (List ℕ) → Asked CommandAsked
 asked_checks words =
     if is_given redundant_flag words then asked_as ForRules (asked_rules (without_flag redundant_flag words)) else asked_as ForCheck (asked_check words)
 
--- what a first word asks for, with the words behind it: it is the name of a command, or asks for help or the version
+-- what a first word asks for, with the words after it: it is the name of a command, or asks for help or the version
 abbrev pub asked_by_first : List ℕ → List (List ℕ) → Asked CommandAsked
 asked_by_first first words =
     if bytes_eq first (codes "check") then asked_checks words

@@ -1,4 +1,4 @@
--- The command line behind `check`, as `clap` is told of it.
+-- The command line after `check`, as it is described to `clap`.
 use Rattle.std.specs.Prelude.{false, codes}
 use Rattle.aa_start.specs.Lines.{bare_line, value_rule, words_rule}
 use Rattle.aa_start.specs.Options.{base_letter}

@@ -1,4 +1,4 @@
--- What the words behind `check` ask for.
+-- What the words after `check` ask for.
 use Rattle.std.specs.Prelude.{ℕ, ◌==◌, if◌then◌else◌, List, [], ◌++◌, codes}
 use Rattle.std.specs.Str.{bytes_eq}
 use Rattle.aa_start.specs.Options as words
@@ -17,11 +17,11 @@ check_with base names = record { base = base; names = names }
 abbrev pub bare_check : CheckAsked
 bare_check = check_with default_base []
 
--- the same check of another folder
+-- the check of another folder
 abbrev pub below : List ℕ → CheckAsked → CheckAsked
 below folder check = record check { base = folder }
 
--- the same check with more names behind its own
+-- the check with more names after its own
 abbrev pub with_names : List (List ℕ) → CheckAsked → CheckAsked
 with_names names check = record check { names = check.names ++ names }
 
@@ -29,18 +29,18 @@ with_names names check = record check { names = check.names ++ names }
 abbrev by_letter : ℕ → Effect CheckAsked
 by_letter letter = if base_letter == letter then Value below else if help_letter == letter then Help else Unknown
 
--- an option's name: there is `--help` alone
+-- an option's name: there is only `--help`
 abbrev by_name : List ℕ → Effect CheckAsked
 by_name name = if bytes_eq (codes "help") name then Help else Unknown
 
--- the options behind `check`, where words that are no options are names
+-- the options after `check`, where words that are no options are names
 abbrev pub check_options : Options CheckAsked
 check_options = record { by_letter = by_letter; by_name = by_name; with_words = with_names }
 
--- what words ask for behind those that came to this
+-- what words ask for after words with this result
 abbrev pub asked_behind : SoFar CheckAsked → List (List ℕ) → Asked CheckAsked
 asked_behind so_far given = words.asked_behind check_options so_far given
 
--- what all words behind `check` ask for
+-- what all words after `check` ask for
 abbrev pub asked_check : List (List ℕ) → Asked CheckAsked
 asked_check words = asked_behind (Open bare_check) words

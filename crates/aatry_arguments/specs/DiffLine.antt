@@ -1,4 +1,4 @@
--- The command line behind `diff`, as `clap` is told of it.
+-- The command line after `diff`, as it is described to `clap`.
 use Rattle.std.specs.Prelude.{false, codes}
 use Rattle.aa_start.specs.Lines.{bare_line, named_value_rule, words_rule}
 use Rattle.clap.specs.Words.{App, Rule, with_rule}

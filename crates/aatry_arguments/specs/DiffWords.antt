@@ -1,17 +1,17 @@
--- What the words behind `diff` ask for.
+-- What the words after `diff` ask for.
 use Rattle.std.specs.Prelude.{ℕ, Bool, ◌==◌, if◌then◌else◌, List, [], ◌∷◌, ◌++◌, Option, Some, None, codes}
 use Rattle.std.specs.Option.{option_map_or}
 use Rattle.std.specs.Str.{bytes_eq}
 use Rattle.aa_start.specs.Options.{Asked, Effect, ForThis, Help, Nothing, Open, Options, SoFar, Unknown, Value, asked_behind, asked_then, help_letter}
 use Rattle.aatry_arguments.specs.Flags.{is_given, without_flag}
 
--- where requests are told of: a log, or a file of questions, by its path
+-- where requests come from: a log, or a file of questions, by its path
 pub data SourceAsked : Type 0 where
   LogAt : List ℕ → SourceAsked
   QuestionsAt : List ℕ → SourceAsked
 
--- a comparison that is asked for: the old and the new folder of policy, where the requests are told of, if these are compared by any, and whether it is
--- to be told how much differs, and not what
+-- a comparison: the old and the new folder of policy, where the requests come from, if the folders are compared by any, and whether it is reported
+-- how much differs, and not what
 pub record ComparisonAsked : Type 0 where
   pub old : List ℕ
   pub new : List ℕ
@@ -45,16 +45,16 @@ pub data PathOption : Type 0 where
   OfLog : PathOption
   OfQuestions : PathOption
 
--- the same with the path of an option, in the place of one before
+-- what words give, with the path of an option, in place of an earlier one
 abbrev pub with_path : PathOption → List ℕ → DiffGiven → DiffGiven
 with_path OfLog path given = record given { log = Some path }
 with_path OfQuestions path given = record given { questions = Some path }
 
--- the same with more folders behind those that there are
+-- what words give, with more folders after the others
 abbrev pub with_folders : List (List ℕ) → DiffGiven → DiffGiven
 with_folders folders given = record given { folders = given.folders ++ folders }
 
--- an option's letter: there is `-h` alone
+-- an option's letter: there is only `-h`
 abbrev by_letter : ℕ → Effect DiffGiven
 by_letter letter = if help_letter == letter then Help else Unknown
 
@@ -66,22 +66,22 @@ by_name name =
     else if bytes_eq (codes "help") name then Help
     else Unknown
 
--- the options behind `diff`, where words that are no options are folders
+-- the options after `diff`, where words that are no options are folders
 abbrev pub diff_options : Options DiffGiven
 diff_options = record { by_letter = by_letter; by_name = by_name; with_words = with_folders }
 
--- what words give behind those that came to this
+-- what words give after words with this result
 abbrev pub given_behind : SoFar DiffGiven → List (List ℕ) → Asked DiffGiven
 given_behind so_far given = asked_behind diff_options so_far given
 
--- where requests are told of, if anywhere; both a log and a file of questions can't be given
+-- where requests come from, if they do; both a log and a file of questions can't be given
 abbrev pub source_of : Option (List ℕ) → Option (List ℕ) → Option (Option SourceAsked)
 source_of None None = Some None
 source_of (Some log) None = Some (Some (LogAt log))
 source_of None (Some questions) = Some (Some (QuestionsAt questions))
 source_of (Some log) (Some questions) = None
 
--- two folders are compared, and by what a source tells of, if there is one
+-- two folders are compared, and by the requests of a source, if there is one
 abbrev pub compared : Bool → List (List ℕ) → Option (Option SourceAsked) → Option ComparisonAsked
 compared stat (old ∷ new ∷ []) (Some source) = Some (comparison_with old new source stat)
 compared stat folders source = None
@@ -90,14 +90,14 @@ compared stat folders source = None
 abbrev pub comparison_of : Bool → DiffGiven → Option ComparisonAsked
 comparison_of stat given = compared stat given.folders (source_of given.log given.questions)
 
--- and where they give none, nothing is asked for
+-- what is asked for: nothing where words give no comparison
 abbrev pub asked_of : Bool → DiffGiven → Asked ComparisonAsked
 asked_of stat given = option_map_or (λ comparison. ForThis comparison) (comparison_of stat given) Nothing
 
--- what words behind `diff` without the flag ask for
+-- what words after `diff` without the flag ask for
 abbrev pub asked_by : Bool → List (List ℕ) → Asked ComparisonAsked
 asked_by stat words = asked_then (asked_of stat) (given_behind (Open bare_given) words)
 
--- what all words behind `diff` ask for
+-- what all words after `diff` ask for
 abbrev pub asked_diff : List (List ℕ) → Asked ComparisonAsked
 asked_diff words = asked_by (is_given stat_flag words) (without_flag stat_flag words)

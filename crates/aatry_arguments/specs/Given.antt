@@ -61,11 +61,11 @@ meant_reach reach = reach_with reach.dot reach.limit (meant_asking reach.asking)
 abbrev pub meant_lines : LogLines → LogLinesAsked
 meant_lines lines = lines_with lines.denied (option_map (λ name. name.items) lines.profile) lines.since
 
--- how what logs ask is meant to be told
+-- how the requests of logs are meant to be reported
 abbrev pub meant_telling : LogTelling → LogTellingAsked
 meant_telling telling = telling_with telling.strict telling.rules telling.globs
 
--- what logs ask that are meant
+-- the logs that are meant
 abbrev pub meant_logs : Logs → LogsAsked
 meant_logs logs = logs_with (string_bytes logs.base) (texts logs.paths) (meant_telling logs.telling) (meant_lines logs.lines)
 
@@ -114,7 +114,7 @@ IsHelp (Help text) = Unit {0}
 IsHelp Memory = Unit {0}
 IsHelp fault = ⊥
 
--- what a fault in words that are read as those behind `check` is to the command that they stand behind: help is on that command
+-- the fault of another command, from the fault of words that are read like those after `check`: help is on that command
 abbrev pub IsPassedOn : ArgumentFault → ArgumentFault → Type 0
 IsPassedOn (Help other) fault = IsHelp fault
 IsPassedOn fault passed = passed ≡ fault

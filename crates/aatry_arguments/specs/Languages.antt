@@ -11,15 +11,15 @@ pub record ByLanguage : Type 0 where
   pub language : Language
   pub words : List (List ℕ)
 
--- the same with one more word before them
+-- the words with one more before them
 abbrev pub with_word : List ℕ → ByLanguage → ByLanguage
 with_word word read = record { language = read.language; words = word ∷ read.words }
 
--- behind this word none is an option
+-- no word after this one is an option
 abbrev pub ends_options : List ℕ → Bool
 ends_options word = bytes_eq word (codes "--")
 
--- behind this word stands that of a language
+-- the word after this one names a language
 abbrev pub is_language_word : List ℕ → Bool
 is_language_word word = bytes_eq word (codes "--language")
 
@@ -27,8 +27,8 @@ is_language_word word = bytes_eq word (codes "--language")
 abbrev pub language_in : List ℕ → Option (List ℕ)
 language_in word = if begins_with (codes "--language=") word then Some (drop 11 word) else None
 
--- What some words say of the language, ahead of the first behind which none is an option, where so far they name this one, or where one has to be named
--- next. Nothing where a word that has to name one names none.
+-- The language that some words name before the first `--`, where so far they name this one, or where one has to be named next. Nothing where a word
+-- that has to name one names none.
 abbrev pub by_language : Option Language → List (List ℕ) → Option ByLanguage
 by_language None [] = None
 by_language None (word ∷ words) = elim (language_named word) [ None ↦ None | Some language ↦ by_language (Some language) words ]

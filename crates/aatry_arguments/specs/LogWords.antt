@@ -1,4 +1,4 @@
--- What the words behind `log` ask for.
+-- What the words after `log` ask for.
 use Rattle.std.specs.Prelude.{ℕ, Bool, false, List, Option, None, Some, codes}
 use Rattle.std.specs.Option.{option_map}
 use Rattle.aa_start.specs.Options.{Asked, ForThis, Nothing, asked_then}
@@ -7,42 +7,42 @@ use Rattle.aatry_arguments.specs.Flags.{is_given, without_flag}
 use Rattle.aatry_arguments.specs.Values.{ValueOption, WithValue, value_of}
 use Rattle.aatry_words.specs.Named.{time_named}
 
--- which lines of logs are asked for: those alone that tell of a request as DENIED, those of a profile, those from a time on
+-- which lines of logs count: only those that log a request as DENIED, those of a profile, those from a time on
 pub record LogLinesAsked : Type 0 where
   pub denied : Bool
   pub profile : Option (List ℕ)
   pub since : Option ℕ
 
--- which are, by the three parts of that, and all lines
+-- the lines that count, by the three parts; and all lines
 abbrev pub lines_with : Bool → Option (List ℕ) → Option ℕ → LogLinesAsked
 lines_with denied profile since = record { denied = denied; profile = profile; since = since }
 
 abbrev pub all_lines : LogLinesAsked
 all_lines = lines_with false None None
 
--- how what logs ask is to be told: whether the status tells of lines that ask nothing that is answered, whether rules are told that can be pasted, in
--- place of the answers, and whether wider ones are offered beside these
+-- how the requests of logs are reported: whether the status shows lines without an answer, whether rules that can be pasted are reported in place of
+-- the answers, and whether wider ones are offered beside these
 pub record LogTellingAsked : Type 0 where
   pub strict : Bool
   pub rules : Bool
   pub globs : Bool
 
--- how it is told, by the three parts of that, and where no word says how
+-- how they are reported, by the three parts; and where no word says how
 abbrev pub telling_with : Bool → Bool → Bool → LogTellingAsked
 telling_with strict rules globs = record { strict = strict; rules = rules; globs = globs }
 
 abbrev pub plain_telling : LogTellingAsked
 plain_telling = telling_with false false false
 
--- what logs ask of a folder of policy: the folder, the paths of the logs, or none for standard input, how it is to be told, and which lines are
--- asked for
+-- logs whose requests are asked of a folder of policy: the folder, the paths of the logs, or none for standard input, how they are reported, and
+-- which lines count
 pub record LogsAsked : Type 0 where
   pub base : List ℕ
   pub paths : List (List ℕ)
   pub telling : LogTellingAsked
   pub lines : LogLinesAsked
 
--- what logs ask, by its four parts
+-- the logs, by their four parts
 abbrev pub logs_with : List ℕ → List (List ℕ) → LogTellingAsked → LogLinesAsked → LogsAsked
 logs_with base paths telling lines = record { base = base; paths = paths; telling = telling; lines = lines }
 
@@ -66,11 +66,11 @@ profile_option = record { word = codes "--profile"; opening = codes "--profile="
 abbrev pub since_option : ValueOption
 since_option = record { word = codes "--since"; opening = codes "--since=" }
 
--- what would be a check asks by logs: its names are their paths
+-- the logs of words that were read as a check: its names are their paths
 abbrev pub logs_of : LogTellingAsked → LogLinesAsked → CheckAsked → Asked LogsAsked
 logs_of telling lines check = ForThis (logs_with check.base check.names telling lines)
 
--- the profile and the time that words name, if they name some, and the other words
+-- the profile and the time that words name, if they name any, and the other words
 pub record LogNamed : Type 0 where
   pub profile : Option (List ℕ)
   pub since : Option ℕ
@@ -86,7 +86,7 @@ abbrev pub named_with : Option (List ℕ) → Option WithValue → Option LogNam
 named_with profile None = None
 named_with profile (Some read) = option_map (λ since. record { profile = profile; since = since; words = read.words }) (since_of read.value)
 
--- what words name, by what they say of a profile
+-- what words name, by the value of the option for a profile
 abbrev pub named_then : Option WithValue → Option LogNamed
 named_then None = None
 named_then (Some read) = named_with read.value (value_of since_option read.words)
@@ -94,7 +94,7 @@ named_then (Some read) = named_with read.value (value_of since_option read.words
 abbrev pub named_in : List (List ℕ) → Option LogNamed
 named_in words = named_then (value_of profile_option words)
 
--- how words ask for it to be told
+-- how words ask for the requests to be reported
 abbrev pub telling_in : List (List ℕ) → LogTellingAsked
 telling_in words = telling_with (is_given strict_flag words) (is_given rules_flag words) (is_given globs_flag words)
 
@@ -102,18 +102,18 @@ telling_in words = telling_with (is_given strict_flag words) (is_given rules_fla
 abbrev pub without_flags : List (List ℕ) → List (List ℕ)
 without_flags words = without_flag denied_flag (without_flag globs_flag (without_flag rules_flag (without_flag strict_flag words)))
 
--- what words ask, of which these name the profile and the time: without the flags, the others are read as those behind `check`
+-- the logs of words beside the profile and the time that they name: without the flags, the others are read like those after `check`
 abbrev pub asked_named : LogNamed → Asked LogsAsked
 asked_named named =
     asked_then
     (logs_of (telling_in named.words) (lines_with (is_given denied_flag named.words) named.profile named.since))
     (asked_check (without_flags named.words))
 
--- the same where they name these well, and else nothing
+-- the logs of words beside the profile and the time, if they name these well; else nothing
 abbrev pub asked_by_named : Option LogNamed → Asked LogsAsked
 asked_by_named None = Nothing
 asked_by_named (Some named) = asked_named named
 
--- what the words behind `log` ask
+-- the logs of the words after `log`
 unfoldable pub asked_logs : List (List ℕ) → Asked LogsAsked
 asked_logs words = asked_by_named (named_in words)

@@ -1,4 +1,4 @@
--- What the words behind `never` and `always` ask for.
+-- What the words after `never` and `always` ask for.
 use Rattle.std.specs.Prelude.{ℕ, Bool, List, Option, None, Some, codes}
 use Rattle.std.specs.Option.{option_map}
 use Rattle.aa_start.specs.Options.{Asked, ForThis, Nothing, asked_then}
@@ -7,8 +7,8 @@ use Rattle.aatry_arguments.specs.Flags.{is_given, without_flag}
 use Rattle.aatry_arguments.specs.Values.{ValueOption, WithValue, value_of}
 use Rattle.aatry_words.specs.Numbers.{number_of}
 
--- a question about all paths: what is asked of which folder, whether it is `always`, whether names alone are to be told, and how many sets are to be
--- looked at; which words make a question is decided elsewhere
+-- a question about all paths: the question to a folder, whether it is `always`, whether only names are reported, and how many sets are looked at;
+-- which words make a question is decided elsewhere
 pub record AllPathsAsked : Type 0 where
   pub asking : AskingAsked
   pub always : Bool
@@ -30,7 +30,7 @@ limit_option = record { word = codes "--limit"; opening = codes "--limit=" }
 abbrev pub usual_limit : ℕ
 usual_limit = 262144
 
--- what asks a question asks about all paths
+-- the question about all paths of a question
 abbrev pub paths_of : Bool → Bool → ℕ → AskingAsked → Asked AllPathsAsked
 paths_of always names limit asking = ForThis (paths_with always names limit asking)
 
@@ -44,7 +44,7 @@ abbrev pub limit_of : Option (List ℕ) → Option ℕ
 limit_of None = Some usual_limit
 limit_of (Some word) = number_of word
 
--- the limit by what words say of it
+-- the limit, by the value of its option
 abbrev pub limited_by : Option WithValue → Option PathsLimited
 limited_by None = None
 limited_by (Some read) = option_map (λ limit. record { limit = limit; words = read.words }) (limit_of read.value)
@@ -52,16 +52,16 @@ limited_by (Some read) = option_map (λ limit. record { limit = limit; words = r
 abbrev pub limited_in : List (List ℕ) → Option PathsLimited
 limited_in words = limited_by (value_of limit_option words)
 
--- what words ask, of which these name the limit: without the flag, the others are read as those behind `who`
+-- the question of words beside the limit that they name: without the flag, the others are read like those after `who`
 abbrev pub asked_limited : Bool → PathsLimited → Asked AllPathsAsked
 asked_limited always limited =
     asked_then (paths_of always (is_given names_flag limited.words) limited.limit) (asked_words (without_flag names_flag limited.words))
 
--- the same where they name it well, and else nothing
+-- the question of words beside the limit, if they name it well; else nothing
 abbrev pub asked_by_limit : Bool → Option PathsLimited → Asked AllPathsAsked
 asked_by_limit always None = Nothing
 asked_by_limit always (Some limited) = asked_limited always limited
 
--- what the words behind `never`, or `always`, ask
+-- the question of the words after `never`, or `always`
 unfoldable pub asked_paths : Bool → List (List ℕ) → Asked AllPathsAsked
 asked_paths always words = asked_by_limit always (limited_in words)

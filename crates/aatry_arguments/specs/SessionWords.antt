@@ -1,4 +1,4 @@
--- What the words behind `session` ask for.
+-- What the words after `session` ask for.
 use Rattle.std.specs.Prelude.{ℕ, if◌then◌else◌, List}
 use Rattle.aa_bytes.specs.Texts.{is_empty}
 use Rattle.aa_start.specs.Options.{Asked, ForThis, Nothing, asked_then}
@@ -12,10 +12,10 @@ pub record SessionAsked : Type 0 where
 abbrev pub session_with : List ℕ → SessionAsked
 session_with base = record { base = base }
 
--- the session of what would be a check: where that has a name, nothing is asked for
+-- the session of words that were read as a check: where that has a name, nothing is asked for
 abbrev pub session_of : CheckAsked → Asked SessionAsked
 session_of check = if is_empty check.names then ForThis (session_with check.base) else Nothing
 
--- the words behind `session` are read as those behind `check`
+-- the words after `session` are read like those after `check`
 abbrev pub asked_session : List (List ℕ) → Asked SessionAsked
 asked_session words = asked_then session_of (asked_check words)

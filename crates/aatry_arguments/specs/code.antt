@@ -1,4 +1,4 @@
--- What is about the code: how far the reading of words has come.
+-- Definitions about the code: how far the reading of words has come.
 pub mod LogNamed
 pub mod PathsLimited
 pub mod ValueSoFar

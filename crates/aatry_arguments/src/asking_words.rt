@@ -1,4 +1,4 @@
-//! Reading of the words behind `who` and `why`: as those behind `check` are read.
+//! Reading of the words after `who` and `why`: like those after `check`.
 ghost use Rattle.std.specs.Prelude.{map, string_bytes};
 ghost use Rattle.aatry_arguments.specs.AskingWords.{asked_words, asking_of};
 ghost use Rattle.aa_start.specs.Given.{IsGivenFor};
@@ -10,7 +10,7 @@ use crate::faults::passed_on;
 use aa_start::ArgumentFault;
 use std::alloc::Global;
 
-// What help says of `who`.
+// The help on `who`.
 const WHO_HELP: &str = "\
 Tells which profiles, children and hats would let through what a question asks for
 
@@ -49,7 +49,7 @@ Exit status:
   3  Writing failed, or memory ran out
 ";
 
-// What help says of `why`.
+// The help on `why`.
 const WHY_HELP: &str = "\
 Tells the answer to a question, and the rules behind it
 
@@ -86,7 +86,7 @@ Exit status:
   3  Writing failed, or memory ran out
 ";
 
-// What would be a check, as a question.
+// The question of words that were read as a check.
 fn asking_of(check: Check) -> Result<Asking, ArgumentFault>
     ensures { IsGivenFor meant_asking (asking_of (meant_check check)) result }
 {
@@ -97,7 +97,7 @@ fn asking_of(check: Check) -> Result<Asking, ArgumentFault>
     Ok(Asking { base, words })
 }
 
-/// What words ask that are read as those behind `check`, with what help says of their command.
+/// The question of words that are read like those after `check`, with the help on their command.
 ///
 /// # Errors
 ///
@@ -111,7 +111,7 @@ pub fn asked_words(alloc: Global, words: &[String], help: &str) -> Result<Asking
     }
 }
 
-/// What words behind `who` ask.
+/// The question of words after `who`.
 ///
 /// # Errors
 ///
@@ -122,7 +122,7 @@ pub fn who_of(alloc: Global, words: &[String]) -> Result<Asking, ArgumentFault>
     asked_words(alloc, words, WHO_HELP)
 }
 
-/// What words behind `why` ask.
+/// The question of words after `why`.
 ///
 /// # Errors
 ///

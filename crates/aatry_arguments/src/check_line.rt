@@ -1,4 +1,4 @@
-//! The command line behind `check`, as `clap` is told of it.
+//! The command line after `check`, as it is described to `clap`.
 ghost use Rattle.std.specs.Prelude.{◌≡◌, false, IfOk, codes};
 ghost use Rattle.aa_start.specs.Lines.{bare_line};
 ghost use Rattle.clap.specs.Words.{app_of, rule_of};
@@ -8,7 +8,7 @@ use aa_start::with_argument;
 use clap::{Arg, Command};
 use std::alloc::{AllocError, Global};
 
-// What help says behind the arguments and options.
+// The help after the arguments and options.
 const MORE_HELP: &str = "\
 Without a NAME each file at the top of DIR is checked. All files below DIR are read, and
 includes are looked up among them; passed over are hidden files, README, `*~`, what package
@@ -72,7 +72,7 @@ fn bare_command<'a>(alloc: Global) -> Command<'a>
         .after_help(MORE_HELP)
 }
 
-/// The command line behind `check` as `clap` is to read it.
+/// The command line after `check` as `clap` is to read it.
 ///
 /// # Errors
 ///

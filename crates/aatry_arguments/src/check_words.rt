@@ -1,4 +1,4 @@
-//! Reading of the words behind `check`, by `clap`.
+//! Reading of the words after `check`, by `clap`.
 ghost use Rattle.std.specs.Prelude.{◌≡◌, IfOk, map, string_bytes};
 ghost use Rattle.aa_start.specs.Given.{IsGivenFor};
 ghost use Rattle.aa_start.specs.Texts.{words_of};
@@ -23,11 +23,11 @@ fn check_with_names(alloc: Global, base: &str, given: &[&str]) -> Result<Check, 
     })
 }
 
-/// The check that words behind `check` ask for.
+/// The check that words after `check` ask for.
 ///
 /// # Errors
 ///
-/// - `Help` where the first option that is no `-b` is `--help` or `-h`, with or without other letters behind `-h`.
+/// - `Help` where the first option other than `-b` is `--help` or `-h`, with or without other letters after `-h`.
 /// - `Bad` where it is any other, or where `-b` comes before it without a folder.
 /// - `Memory` where memory ran out.
 pub fn check_of(alloc: Global, words: &[String]) -> Result<Check, ArgumentFault>

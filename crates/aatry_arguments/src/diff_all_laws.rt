@@ -1,4 +1,4 @@
-//! What holds of the words behind `diff` with the flag `--all`, as a law over the definitions that `call_of` is proved to follow.
+//! What words after `diff` with the flag `--all` ask for, as a law over the definitions that `call_of` is proved to follow.
 
 ghost use Rattle.std.specs.Prelude.{◌≡◌, ◌++◌, ℕ, Bool, None, Some, false, true, List, Option, [], ◌∷◌, codes};
 ghost use Rattle.std.specs.List.{list_all};
@@ -11,11 +11,11 @@ ghost use Rattle.aatry_arguments.specs.PathsWords.{limit_option};
 ghost use Rattle.aatry_arguments.specs.Values.{IsWithout, value_in};
 ghost use Rattle.aatry_words.specs.Numbers.{number_of};
 
-/// `diff` with `--all` alone, or with one word more that is no option, asks for nothing that there is. Two words that are no options and more behind them ask
-/// for the comparison of the first two, for those of the other names, by 262,144 sets and in full. With a path behind `--log` or `--questions` they ask for
-/// nothing. Wherever the flag stands ahead of `--`, the words ask for what they would with it at their front; and where it stands nowhere there, they ask for
-/// a comparison of profiles and requests. So it is with `--stat` and `--quiet-audit`. A number behind `--limit`, in the next word or behind a `=` in its own,
-/// is that of the sets, and of two the last counts; with what is no number there the words ask for nothing.
+/// `diff` with `--all` alone, or with one word more that is no option, asks for nothing that exists. Two words that are no options, with more after
+/// them, ask for the comparison of the first two, for the profiles named by the rest, by 262,144 sets and in full. With a path after `--log` or
+/// `--questions` they ask for nothing. Wherever the flag is before `--`, the words ask for what they would with it in front; and where it isn't
+/// there, they ask for a comparison of profiles and requests. The same holds of `--stat` and `--quiet-audit`. A number after `--limit`, in the next
+/// word or after a `=` in its own, is the number of sets, and of two the last counts; where it is followed by no number, the words ask for nothing.
 pub fn what_path_comparisons_have()
     ensures alone { asked (codes "diff" ∷ codes "--all" ∷ []) ≡ Nothing }
     ensures one { (old : List ℕ)

@@ -1,4 +1,4 @@
-//! Reading of the words behind `diff` where the flag `--all` is among them, and of all others behind it.
+//! Reading of the words after `diff`, with the flag `--all` among them or without it.
 ghost use Rattle.std.specs.Prelude.{◌≡◌, IfOk, map, option_map, string_bytes};
 ghost use Rattle.aa_start.specs.Given.{IsGivenFor};
 ghost use Rattle.aa_start.specs.Texts.{words_of};
@@ -20,10 +20,10 @@ use std::alloc::{AllocError, Global};
 // The flag that asks for all paths.
 const ALL: &str = "--all";
 
-// The flag by which what is written to the log counts for nothing.
+// The flag by which differences in what is logged don't count.
 const QUIET_AUDIT: &str = "--quiet-audit";
 
-// The comparison of these folders, for those of these names.
+// The comparison of these folders, for the profiles of these names.
 fn compared_with(
     alloc: Global,
     old: &str,
@@ -46,7 +46,7 @@ fn compared_with(
     })
 }
 
-// The same by words that are no options, if these are two or more.
+// The comparison of the first two words that are no options, for the names after them; `None` where there are fewer than two.
 fn compared_for(
     alloc: Global,
     words: &[&str],
@@ -91,7 +91,7 @@ fn path_comparison_by(
     }
 }
 
-// The same, where none is a fault.
+// The comparison of what words give; a fault where they give none.
 fn path_comparison_or_fault(
     alloc: Global,
     log: Option<&str>,
@@ -143,7 +143,7 @@ fn without_flags(alloc: Global, words: &[String]) -> Result<Vec<String>, AllocEr
     without_flag(alloc, QUIET_AUDIT, &others)
 }
 
-// What words ask for, of which these name the limit.
+// The comparison that words ask for beside the limit that they name.
 fn all_limited(alloc: Global, limited: PathsLimited) -> Result<PathComparison, ArgumentFault>
     ensures { IsGivenFor meant_path_comparison (asked_limited (seen_limited limited)) result }
 {
@@ -156,7 +156,7 @@ fn all_limited(alloc: Global, limited: PathsLimited) -> Result<PathComparison, A
     }
 }
 
-// The comparison that words behind `diff` ask for beside the flag `--all`.
+// The comparison that words after `diff` ask for beside the flag `--all`.
 #[tactic(auto, unfolding(crate::specs::DiffAllWords::asked_all))]
 fn all_of(alloc: Global, words: &[String]) -> Result<PathComparison, ArgumentFault>
     ensures { IsGivenFor meant_path_comparison (asked_all (map string_bytes words.now)) result }
@@ -168,14 +168,14 @@ fn all_of(alloc: Global, words: &[String]) -> Result<PathComparison, ArgumentFau
     }
 }
 
-/// The comparison that words behind `diff` ask for: for all paths where the flag `--all` is among them, and else of profiles and requests.
+/// The comparison that words after `diff` ask for: for all paths where the flag `--all` is among them, and else of profiles and requests.
 ///
 /// # Errors
 ///
 /// Those of `diff_of` where no word is the flag. Where one is, of the words without it:
 /// - `Bad` where `--limit` has no value, or one that isn't a number of digits below 253,402,300,800.
-/// - Of the others without the flags `--stat` and `--quiet-audit`, those of `diff_of`, but that `Bad` comes wherever a log or a file of questions is given, or
-///   the words that are no options are less than two.
+/// - Of the rest without the flags `--stat` and `--quiet-audit`, those of `diff_of`, except that `Bad` comes wherever a log or a file of questions
+///   is given, or there are fewer than two words that are no options.
 pub fn diffs_of(alloc: Global, words: &[String]) -> Result<Command, ArgumentFault>
     ensures { IsGivenFor meant_command (asked_diffs (map string_bytes words.now)) result }
 {

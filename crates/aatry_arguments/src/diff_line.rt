@@ -1,4 +1,4 @@
-//! The command line behind `diff`, as `clap` is told of it.
+//! The command line after `diff`, as it is described to `clap`.
 ghost use Rattle.std.specs.Prelude.{◌≡◌, false, IfOk};
 ghost use Rattle.clap.specs.Words.{app_of, rule_of};
 ghost use Rattle.aatry_arguments.specs.DiffLine.{diff_line, folder_rule, log_rule, questions_rule};
@@ -23,7 +23,7 @@ fn questions_argument<'a>(alloc: Global) -> Arg<'a>
     aa_start::named_value(alloc, "QUESTIONS", "questions", "A file of questions")
 }
 
-// The argument for the folders: how many there have to be is tested behind the parse.
+// The argument for the folders: how many there have to be is tested after the parse.
 fn folder_argument<'a>(alloc: Global) -> Arg<'a>
     ensures rule { rule_of result ≡ folder_rule }
     ensures local { result.global ≡ false }
@@ -31,7 +31,7 @@ fn folder_argument<'a>(alloc: Global) -> Arg<'a>
     aa_start::other_words(alloc, "FOLDER", false, "A folder of policy")
 }
 
-/// The command line behind `diff` as `clap` is to read it.
+/// The command line after `diff` as `clap` is to read it.
 ///
 /// # Errors
 ///

@@ -1,4 +1,4 @@
-//! Reading of the words behind `diff`, by `clap`.
+//! Reading of the words after `diff`, by `clap`.
 ghost use Rattle.std.specs.Prelude.{◌≡◌, IfOk, map, option_map, string_bytes};
 ghost use Rattle.aa_start.specs.Given.{IsGivenFor};
 ghost use Rattle.aa_start.specs.Texts.{words_of};
@@ -15,7 +15,7 @@ use std::alloc::{AllocError, Global};
 /// The flag that asks for how much differs.
 pub const STAT: &str = "--stat";
 
-/// What help says of `diff`.
+/// The help on `diff`.
 pub const HELP: &str = "\
 Tells which profiles of two folders of policy differ, and which requests they answer otherwise
 
@@ -80,7 +80,7 @@ Exit status:
      profile, which is named
 ";
 
-// Where requests are told of, if anywhere; none where both a log and a file of questions are given.
+// Where requests come from, if they do; `None` where both a log and a file of questions are given.
 fn source_by(
     alloc: Global,
     log: Option<&str>,
@@ -99,7 +99,7 @@ fn source_by(
     }
 }
 
-// The comparison of these folders by this source.
+// The comparison of these folders by requests from this source.
 fn compared(
     alloc: Global,
     old: &str,
@@ -137,7 +137,7 @@ fn comparison_by(
     }
 }
 
-// The same, where none is a fault.
+// The comparison of what words give; a fault where they give none.
 fn comparison_or_fault(
     alloc: Global,
     log: Option<&str>,
@@ -173,14 +173,14 @@ fn diff_by(alloc: Global, words: &[String], stat: bool) -> Result<Comparison, Ar
     comparison_or_fault(alloc, log, questions, folders, stat)
 }
 
-/// The comparison that words behind `diff` ask for.
+/// The comparison that words after `diff` ask for.
 ///
 /// # Errors
 ///
 /// Of the words without the flag `--stat`:
-/// - `Help` where the first option that is no `--log` and no `--questions` is `--help` or `-h`, with or without other letters behind `-h`.
-/// - `Bad` where it is any other, or where one of those ahead of it has no path. Where there is none, and one of those has no path, the folders
-///   aren't two, or both a log and a file of questions are given.
+/// - `Help` where the first option other than `--log` and `--questions` is `--help` or `-h`, with or without other letters after `-h`.
+/// - `Bad` where it is any other, or where `--log` or `--questions` comes before it without a path. Where there is no such option, and `--log` or
+///   `--questions` has no path, there aren't exactly two folders, or both a log and a file of questions are given.
 /// - `Memory` where memory ran out.
 pub fn diff_of(alloc: Global, words: &[String]) -> Result<Comparison, ArgumentFault>
     ensures { IsGivenFor meant_comparison (asked_diff (map string_bytes words.now)) result }

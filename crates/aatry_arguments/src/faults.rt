@@ -1,10 +1,10 @@
-//! Faults of the commands whose words are read as those behind `check`.
+//! Faults of the commands whose words are read like those after `check`.
 ghost use Rattle.aatry_arguments.specs.Given.{IsHelp, IsPassedOn};
 
 use aa_start::ArgumentFault;
 use std::alloc::Global;
 
-/// Help, by its text; `Memory` where memory ran out.
+/// Help, with this text; `Memory` where memory ran out.
 pub fn help_with(alloc: Global, text: &str) -> ArgumentFault
     ensures { IsHelp result }
 {
@@ -14,7 +14,7 @@ pub fn help_with(alloc: Global, text: &str) -> ArgumentFault
     }
 }
 
-/// What a fault of the reading of a check is to another command: in the place of help it is that command's own, by its text.
+/// The fault of another command, from the fault of a check: in place of help it is that command's own, with this text.
 pub fn passed_on(alloc: Global, fault: ArgumentFault, text: &str) -> ArgumentFault
     ensures { IsPassedOn fault result }
 {

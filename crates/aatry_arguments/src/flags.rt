@@ -1,4 +1,4 @@
-//! Words that are flags, wherever they stand among the others.
+//! Words that are flags, wherever they are among the other words.
 
 ghost use Rattle.std.specs.Prelude.{◌≡◌, IfOk, map, string_bytes};
 ghost use Rattle.aatry_arguments.specs.Flags.{is_given, without_flag};
@@ -6,7 +6,7 @@ ghost use Rattle.aatry_arguments.specs.Flags.{is_given, without_flag};
 use crate::languages::{ends_options, push_words};
 use std::alloc::{AllocError, Global};
 
-/// Whether one of some words is this flag, ahead of the first behind which none is an option.
+/// Whether one of some words is this flag, before the first `--`. It takes no memory.
 pub fn is_given(flag: &str, words: &[String]) -> bool
     ensures { result ≡ is_given flag.now (map string_bytes words.now) }
 {
@@ -23,7 +23,7 @@ pub fn is_given(flag: &str, words: &[String]) -> bool
     false
 }
 
-/// The words without those that are this flag, ahead of the first behind which none is an option.
+/// The words without those that are this flag, before the first `--`.
 ///
 /// # Errors
 ///

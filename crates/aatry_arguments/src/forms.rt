@@ -1,4 +1,4 @@
-//! In which form is told what a command finds, at length or not.
+//! The form of a command's report, verbose or not.
 
 ghost use Rattle.std.specs.Prelude.{◌≡◌, drop, map, string_bytes};
 ghost use Rattle.aatry_arguments.specs.Arguments.{asked};
@@ -20,10 +20,10 @@ use std::alloc::Global;
 // The flag that asks for records.
 const JSON: &str = "--json";
 
-// The flag that asks for lines that tell at length.
+// The flag that asks for verbose lines.
 const VERBOSE: &str = "--verbose";
 
-// A command that is to tell in lines.
+// A command whose report is in lines.
 fn in_lines(language: Language, command: Command) -> Call
     ensures { meant_call result ≡ call_with language form.Lines (meant_command command) }
 {
@@ -35,7 +35,7 @@ fn in_lines(language: Language, command: Command) -> Call
     }
 }
 
-// A command that is to tell in records: a test and a session alone have none.
+// A command whose report is in records: a test and a session have none.
 fn in_records(language: Language, command: Command) -> Result<Call, ArgumentFault>
     ensures { IsGivenFor meant_call (in_records language (meant_command command)) result }
 {
@@ -60,7 +60,7 @@ fn call_in_lines(alloc: Global, language: Language, words: &[String]) -> Result<
     }
 }
 
-// The call that words ask for beside one that asks for records.
+// The call that words ask for beside the flag that asks for records.
 fn call_in_records(
     alloc: Global,
     language: Language,
@@ -87,7 +87,7 @@ fn call_in(alloc: Global, language: Language, words: &[String]) -> Result<Call, 
     }
 }
 
-// A call that is to be told at length: one by whose command files are left out.
+// A verbose call: of a command that may leave out files.
 fn at_length(call: Call) -> Result<Call, ArgumentFault>
     ensures { IsGivenFor meant_call (at_length (meant_call call)) result }
 {
@@ -108,7 +108,7 @@ fn at_length(call: Call) -> Result<Call, ArgumentFault>
     }
 }
 
-// The call that words ask for by a language beside one that asks for lines that tell at length.
+// The call that words ask for by a language beside the flag that asks for verbose lines.
 fn call_at_length(
     alloc: Global,
     language: Language,
@@ -122,7 +122,7 @@ fn call_at_length(
     }
 }
 
-// The call that words ask for by a language, at length or not.
+// The call that words ask for by a language, verbose or not.
 fn call_by(alloc: Global, language: Language, words: &[String]) -> Result<Call, ArgumentFault>
     ensures { IsGivenFor meant_call (asked_by language (map string_bytes words.now)) result }
 {
@@ -135,7 +135,7 @@ fn call_by(alloc: Global, language: Language, words: &[String]) -> Result<Call, 
     }
 }
 
-// The call that the words behind the program's own name ask for.
+// The call that the words after the program's own name ask for.
 fn call_behind(alloc: Global, words: &[String]) -> Result<Call, ArgumentFault>
     ensures { IsGivenFor meant_call (asked_call (map string_bytes words.now)) result }
 {
@@ -146,34 +146,34 @@ fn call_behind(alloc: Global, words: &[String]) -> Result<Call, ArgumentFault>
     }
 }
 
-/// The command that is asked for by the words that the program was started with, the language by which it is to read policy, and the form in which it
-/// is to tell.
+/// The command that is asked for by the words that the program was started with, the language by which it reads policy, and the form of its report.
 ///
-/// The first word is the program's own name, whatever it is, and the second is the command's name. Behind `check` a word is a NAME, behind `test`
-/// a FILE, behind `who` and `why` a word of the question, and behind `diff` a folder, unless it is an option: a hyphen and more behind it. Behind
-/// `session` there is none but options. Behind `log` a word is the path of a log. Behind the word `--` none is an option.
+/// The first word is the program's own name, whatever it is, and the second is the command's name. After `check` a word is a NAME, after `test` a
+/// FILE, after `who` and `why` a word of the question, and after `diff` a folder, unless it is an option: a hyphen followed by more. After `session`
+/// there are only options. After `log` a word is the path of a log. After the word `--` none is an option.
 ///
-/// `-b` takes the path of the folder of policy, and behind `diff`, which has no `-b`, `--log` and `--questions` take the path of a file. The path
-/// stands behind the option in its word, without one `=` between behind `-b` and with it behind the others, or else it is the next word, which then
-/// is no option and no `--`. Such an option may stand before, between and behind the other words, and where it is given again, the last counts.
+/// `-b` takes the path of the folder of policy, and after `diff`, which has no `-b`, `--log` and `--questions` take the path of a file. The path
+/// follows the option in its word, without one `=` between them after `-b` and with it after the others, or else it is the next word, which then is
+/// no option and no `--`. Such an option may come before, between and after the other words, and where it is given again, the last counts.
 ///
-/// The word `--json`, ahead of the first `--`, asks for records, and is none of the words above: the command is the one that the others ask for. Nor
-/// is `--verbose` there, which asks for lines that tell at length, each file that is left out too; nor `--strict` behind `log`, which asks for a
-/// status that tells of lines without an answer, or `--rules`, which asks for rules that can be pasted; nor `--accept` behind `test`; nor `--all`
-/// behind `diff`, which asks for a comparison for all paths: there names may stand behind the two folders, and `--log` and `--questions` can't be given.
-/// Nor are the word `--language` and the one behind it, or a word that begins with `--language=`, ahead of the first `--`: they name a language by its
-/// number, 3 or 4. Where one is named again, the last counts, and where none is, policy is read by language 4 (docs/policy.md, "Languages").
+/// The word `--json`, before the first `--`, asks for records, and is none of the words above: the command is the one that the other words ask for.
+/// Nor is `--verbose` there, which asks for verbose lines, with each file that is left out; nor `--strict` after `log`, which asks for a status that
+/// shows lines without an answer, or `--rules`, which asks for rules that can be pasted; nor `--accept` after `test`; nor `--all` after `diff`,
+/// which asks for a comparison for all paths: there names may follow the two folders, and `--log` and `--questions` can't be given. Nor are the word
+/// `--language` and the one after it, or a word that begins with `--language=`, before the first `--`: they name a language by its number, 3 or 4.
+/// Where one is named again, the last counts, and where none is, policy is read by language 4 (docs/policy.md, "Languages").
 ///
 /// # Errors
 ///
-/// - `Help` where there is no second word, or it is `--help` or `-h`. Behind a command, where the first option that takes no path is one of these,
-///   with or without other letters behind `-h`.
+/// - `Help` where there is no second word, or it is `--help` or `-h`. After a command, where the first option that takes no path is one of these,
+///   with or without other letters after `-h`.
 /// - `Version` where the second word is `--version` or `-V`.
-/// - `Bad` where the second word is any other. Behind a command, where the first option that takes no path is any other, or where one that takes a
-///   path comes before it without one. Behind `test`, where there is no FILE. Behind `who` and `why`, where the question has no word. Behind `diff`,
-///   where the folders aren't two, or both `--log` and `--questions` are given; with `--all`, where there are less than two words that are no options,
-///   one of those two options is given, or `--limit` has no number. Behind `session`, where there is a word that is no option. Where records are asked
-///   for of `test` or `session`, or lines that tell at length of `check`, `test` or `session`, or a word that has to name a language names none.
+/// - `Bad` where the second word is any other. After a command, where the first option that takes no path is any other, or where one that takes a
+///   path comes before it without one. After `test`, where there is no FILE. After `who` and `why`, where the question has no word. After `diff`,
+///   where there aren't exactly two folders, or both `--log` and `--questions` are given; with `--all`, where there are fewer than two words that
+///   are no options, one of those two options is given, or `--limit` has no number. After `session`, where there is a word that is no option. Where
+///   records are asked for of `test` or `session`, or verbose lines of `check`, `test` or `session`, or a word that has to name a language names
+///   none.
 /// - `Memory` where memory ran out.
 pub fn call_of(alloc: Global, words: &[String]) -> Result<Call, ArgumentFault>
     ensures { IsGivenFor meant_call (asked_call (drop 1 (map string_bytes words.now))) result }

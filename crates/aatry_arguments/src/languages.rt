@@ -18,14 +18,18 @@ pub struct ByLanguage {
     pub words: Vec<String>,
 }
 
-/// Whether behind a word none is an option.
+/// Whether no word after this one is an option.
 pub fn ends_options(word: &str) -> bool
     ensures { result ≡ ends_options word.now }
 {
     word == "--"
 }
 
-/// Puts copies of words behind others.
+/// Appends copies of words to `out`.
+///
+/// # Errors
+///
+/// Where memory runs out.
 pub fn push_words(alloc: Global, words: &[String], out: &mut Vec<String>) -> Result<(), AllocError>
     ensures { OnOk result (map string_bytes out.new.items ≡ map string_bytes out.old.items ++ map string_bytes words.now) }
 {
@@ -35,7 +39,7 @@ pub fn push_words(alloc: Global, words: &[String], out: &mut Vec<String>) -> Res
     Ok(())
 }
 
-// Whether behind a word stands that of a language.
+// Whether the word after this one names a language.
 fn is_language_word(word: &str) -> bool
     ensures { result ≡ is_language_word word.now }
 {
@@ -49,8 +53,7 @@ fn language_in(word: &str) -> Option<&str>
     word.strip_prefix("--language=")
 }
 
-/// What words say of the language, ahead of the first behind which none is an option: by 4, where they name no other. None where a word that has to name
-/// one names none.
+/// The language that words name before the first `--`: 4, where they name none. `None` where a word that has to name one names none.
 ///
 /// # Errors
 ///

@@ -1,4 +1,4 @@
-//! What holds of the words behind commands, as laws over the definitions that `command_of` is proved to follow.
+//! What the words after commands ask for, as laws over the definitions that `command_of` is proved to follow.
 
 ghost use Rattle.std.specs.Prelude.{◌≡◌, ◌++◌, ℕ, None, Some, false, true, List, Option, [], ◌∷◌, codes};
 ghost use Rattle.std.specs.List.{list_all};
@@ -24,9 +24,9 @@ ghost use Rattle.aatry_arguments.specs.TestWords.{accept_flag, test_with};
 ghost use Rattle.aatry_arguments.specs.Values.{IsWithout, ValueOption, value_in};
 ghost use Rattle.aatry_words.specs.Named.{time_named};
 
-/// `check` alone asks for all files at the top of /etc/apparmor.d. Words behind it that are no options are its NAMEs, all of them and in their
-/// order, and so are all words behind `--`. Behind `-b` and a folder each word asks for what it would ask for without them, of that folder; so of
-/// two folders the last counts.
+/// `check` alone asks for all files at the top of /etc/apparmor.d. Words after it that are no options are its NAMEs, all of them and in their order,
+/// and so are all words after `--`. After `-b` and a folder each word asks for what it would ask for without them, of that folder; so of two folders
+/// the last counts.
 pub fn what_checks_have()
     ensures alone { asked (codes "check" ∷ []) ≡ ForThis (ForCheck (check_with (codes "/etc/apparmor.d") [])) }
     ensures plain { (words : List (List ℕ)) (check : CheckAsked)
@@ -45,10 +45,10 @@ pub fn what_checks_have()
         ≡ ForThis (ForCheck (check_with (codes "/srv") (codes "x" ∷ codes "y" ∷ []))) }
 {}
 
-/// `check --rules` alone asks which rules decide nothing in all files at the top of /etc/apparmor.d, by 262,144 sets, of their own rules. Words without
-/// `--rules`, ahead of a `--`, ask for a check of files. Wherever `--rules` stands there, words ask for what they would with it at their front; so it is with
-/// `--included`, by which included rules are tried, too. Words without these and without `--limit` that would ask for a check of files ask of it for
-/// rules in these files.
+/// `check --rules` alone asks which rules decide nothing in all files at the top of /etc/apparmor.d, by 262,144 sets, of their own rules. Words
+/// without `--rules` before a `--` ask for a check of files. Wherever `--rules` is before it, words ask for what they would with it in front; the
+/// same holds of `--included`, by which included rules are tried, too. Words without these and without `--limit` that would ask for a check of files
+/// ask for one of the rules in these files.
 pub fn what_rule_checks_have()
     ensures alone { asked (codes "check" ∷ codes "--rules" ∷ []) ≡ ForThis (ForRules (rules_check_with false 262144 (check_with (codes "/etc/apparmor.d") []))) }
     ensures nowhere { (words : List (List ℕ))
@@ -71,9 +71,9 @@ pub fn what_rule_checks_have()
         → asked (codes "check" ∷ codes "--rules" ∷ words) ≡ ForThis (ForRules (rules_check_with true 262144 (check_with base names))) }
 {}
 
-/// `test` alone asks for nothing that there is, and so does any `test` whose words would ask of `check` to check all files at the top of a folder.
-/// Words that would ask of `check` for some files ask of `test` for the transcripts of these paths, over the same folder. So it is of words without the
-/// flag `--accept`; words with it ask for the same as without it, and that what is told be accepted.
+/// `test` alone asks for nothing that exists, and so does any `test` whose words would ask of `check` to check all files at the top of a folder.
+/// Words that would ask of `check` for some files ask of `test` for the transcripts of these paths, over the same folder. This holds of words
+/// without the flag `--accept`; words with it ask for the same as without it, and that the replies be accepted.
 pub fn what_tests_have()
     ensures alone { asked (codes "test" ∷ []) ≡ Nothing }
     ensures none { (words : List (List ℕ)) (base : List ℕ)
@@ -90,8 +90,8 @@ pub fn what_tests_have()
         → asked_by_first (codes "test") words ≡ ForThis (ForTest (test_with base (name ∷ names) true)) }
 {}
 
-/// `who` and `why` alone ask for nothing that there is. Words that would ask of `check` for some files ask of them the question of these words, over the
-/// same folder, and for all files at the top of a folder they ask for nothing.
+/// `who` and `why` alone ask for nothing that exists. Words that would ask of `check` for some files ask of them the question of these words, over
+/// the same folder, and where they would ask for all files at the top of a folder they ask for nothing.
 pub fn what_askings_have()
     ensures who_alone { asked (codes "who" ∷ []) ≡ Nothing }
     ensures who_none { (words : List (List ℕ)) (base : List ℕ)
@@ -109,8 +109,8 @@ pub fn what_askings_have()
         → asked_by_first (codes "why") words ≡ ForThis (ForWhy (asking_with base (word ∷ more))) }
 {}
 
-/// `reach` alone asks for nothing that there is. Words without `--dot` and without `--limit` that would ask a question of `who` ask under which profiles programs
-/// may run that are started by those whose names they are, over the same folder, by 262,144 sets; and with `--dot` as a graph.
+/// `reach` alone asks for nothing that exists. Words without `--dot` and without `--limit` that would ask a question of `who` ask under which
+/// profiles programs may run that the profiles of these names start, over the same folder, by 262,144 sets; and with `--dot` as a graph.
 pub fn what_reaches_have()
     ensures alone { asked (codes "reach" ∷ []) ≡ Nothing }
     ensures names { (words : List (List ℕ)) (base name : List ℕ) (names : List (List ℕ))
@@ -125,9 +125,10 @@ pub fn what_reaches_have()
         → asked (codes "reach" ∷ words) ≡ ForThis (ForReach (reach_with true 262144 (asking_with base (name ∷ names)))) }
 {}
 
-/// `log` alone asks by all lines of standard input, of /etc/apparmor.d; `log --strict` for the status too, `log --rules` for rules, and with `--globs` for
-/// wider ones beside these; and with `--denied`, `--profile` and a name, or `--since` and a time, by those lines. Words without these that would ask of `check` for some files ask of `log` by all lines of the logs at these paths,
-/// over the same folder. Where a word behind `--since` names no time, the words ask for nothing that there is.
+/// `log` alone asks by all lines of standard input, of /etc/apparmor.d; `log --strict` for the status too, `log --rules` for rules, and with
+/// `--globs` for wider ones beside these; and with `--denied`, `--profile` and a name, or `--since` and a time, by those lines. Words without these
+/// that would ask of `check` for some files ask of `log` by all lines of the logs at these paths, over the same folder. Where a word after `--since`
+/// names no time, the words ask for nothing that exists.
 pub fn what_logs_have()
     ensures alone { asked (codes "log" ∷ []) ≡ ForThis (ForLog (logs_with (codes "/etc/apparmor.d") [] plain_telling all_lines)) }
     ensures strict { asked (codes "log" ∷ codes "--strict" ∷ []) ≡ ForThis (ForLog (logs_with (codes "/etc/apparmor.d") [] (telling_with true false false) all_lines)) }
@@ -158,8 +159,8 @@ pub fn what_logs_have()
         → asked_by_first (codes "log") words ≡ ForThis (ForLog (logs_with base names plain_telling all_lines)) }
 {}
 
-/// `--profile` and `--since` have their value in the next word, or behind a `=` in their own, and of two the last counts. Behind `--` they have none. Where no
-/// word follows, they have no value that there is.
+/// `--profile` and `--since` have their value in the next word, or after a `=` in their own, and of two the last counts. After `--` they have none.
+/// Where no word follows, their value is missing.
 pub fn how_values_are_named()
     ensures profile { (so_far : Option (List ℕ)) (name : List ℕ) (words : List (List ℕ))
         → value_in profile_option (Some so_far) (codes "--profile" ∷ name ∷ words) ≡ value_in profile_option (Some (Some name)) words }
@@ -174,8 +175,8 @@ pub fn how_values_are_named()
         → value_in option (Some so_far) (codes "--" ∷ words) ≡ Some (record { value = so_far; words = codes "--" ∷ words }) }
 {}
 
-/// `session` alone asks for a session over /etc/apparmor.d. Words that would ask of `check` to check all files at the top of a folder ask of `session`
-/// for one over it, and for some files they ask for nothing.
+/// `session` alone asks for a session over /etc/apparmor.d. Words that would ask of `check` to check all files at the top of a folder ask of
+/// `session` for one over it, and for some files they ask for nothing.
 pub fn what_sessions_have()
     ensures alone { asked (codes "session" ∷ []) ≡ ForThis (ForSession (session_with (codes "/etc/apparmor.d"))) }
     ensures over { (words : List (List ℕ)) (base : List ℕ)
@@ -186,10 +187,10 @@ pub fn what_sessions_have()
         → asked_by_first (codes "session") words ≡ Nothing }
 {}
 
-/// `diff` alone asks for nothing that there is. Two words that are no options ask for the comparison of these folders, with a path behind `--log` or
-/// behind `--questions` by that log or file of questions too, and paths behind both ask for nothing. Such an option gives its path wherever it stands,
-/// also behind a `=` in its word, and of two paths the last counts. Words that are no options are folders, all of them and in their order, and so are
-/// all words behind `--`. Words with the flag `--stat`, and without `--all`, ask for the same as without it, and that how much differs be told.
+/// `diff` alone asks for nothing that exists. Two words that are no options ask for the comparison of these folders, with a path after `--log` or
+/// after `--questions` by that log or file of questions too, and paths after both ask for nothing. Such an option gives its path wherever it is,
+/// also after a `=` in its word, and of two paths the last counts. Words that are no options are folders, all of them and in their order, and so are
+/// all words after `--`. Words with the flag `--stat`, and without `--all`, ask for the same as without it, and that how much differs be reported.
 pub fn what_comparisons_have()
     ensures alone { asked (codes "diff" ∷ []) ≡ Nothing }
     ensures by_none { (old new : List ℕ)
@@ -244,8 +245,8 @@ pub fn what_comparisons_have()
         → given_behind (diff.Open given) (codes "--" ∷ words) ≡ ForThis (with_folders words given) }
 {}
 
-/// Words name a language by `--language` and its number, in the next word or behind a `=` in the same, and of two the last counts. Behind `--` none is
-/// named. Where a number is no language's, or none follows, the words ask for nothing that there is.
+/// Words name a language by `--language` and its number, in the next word or after a `=` in the same, and of two the last counts. After `--` none is
+/// named. Where a number is no language's, or none follows, the words ask for nothing that exists.
 pub fn how_languages_are_named()
     ensures next { (so_far language : Language) (words : List (List ℕ))
         → by_language (Some so_far) (codes "--language" ∷ word_of language ∷ words) ≡ by_language (Some language) words }

@@ -1,4 +1,4 @@
-//! What the words of `aatry`'s arguments ask for: one of its commands, in a form, help, the version, or nothing that there is.
+//! What the words of `aatry`'s arguments ask for: one of its commands, with the form of its report, help, the version, or nothing that exists.
 #![tactic(auto)]
 
 mod arguments;

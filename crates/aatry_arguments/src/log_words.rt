@@ -1,4 +1,4 @@
-//! Reading of the words behind `log`: but for what `log` alone has, as those behind `check` are read.
+//! Reading of the words after `log`: except for what only `log` has, like those after `check`.
 ghost use Rattle.std.specs.Prelude.{◌≡◌, IfOk, map, option_map, string_bytes};
 ghost use Rattle.aa_start.specs.Given.{IsGivenFor};
 ghost use Rattle.aa_start.specs.Options.{ForThis, asked_then};
@@ -17,7 +17,7 @@ use aa_start::ArgumentFault;
 use aatry_words::time_named;
 use std::alloc::{AllocError, Global};
 
-// The flag that asks for a status that tells of lines without an answer.
+// The flag that asks for a status that shows lines without an answer.
 const STRICT: &str = "--strict";
 
 // The flag that asks for rules that can be pasted.
@@ -29,7 +29,7 @@ const GLOBS: &str = "--globs";
 // The flag that asks for requests that were denied.
 const DENIED: &str = "--denied";
 
-// What help says of `log`.
+// The help on `log`.
 const HELP: &str = "\
 Asks the policy of a folder what the lines of a log asked, and tells what it answers now
 
@@ -87,7 +87,7 @@ const SINCE: NamedOption = NamedOption {
     opening: "--since=",
 };
 
-// The profile and the time that words name, if they name some, and the other words.
+// The profile and the time that words name, if they name any, and the other words.
 #[derive(Drop)]
 pub struct LogNamed {
     pub profile: Option<Vec<u8>>,
@@ -95,7 +95,7 @@ pub struct LogNamed {
     pub words: Vec<String>,
 }
 
-// The time that a word names, where there is one; none where it names none.
+// The time that a word names, where there is one; `None` where it names no time.
 fn since_of(word: &Option<Vec<u8>>) -> Option<Option<u64>>
     ensures { result ≡ since_of (option_map (λ word. word.items) word.now) }
 {
@@ -128,7 +128,7 @@ fn named_in(alloc: Global, words: &[String]) -> Result<Option<LogNamed>, AllocEr
     }
 }
 
-// What logs ask by what would be a check.
+// The logs of words that were read as a check.
 fn logs_with(check: Check, telling: LogTelling, lines: LogLines) -> Logs
     ensures { ForThis (meant_logs result) ≡ logs_of (meant_telling telling) (meant_lines lines) (meant_check check) }
 {
@@ -141,7 +141,7 @@ fn logs_with(check: Check, telling: LogTelling, lines: LogLines) -> Logs
     }
 }
 
-// The same of words without what `log` alone has.
+// The logs of words without what only `log` has.
 fn logs_by(
     alloc: Global,
     words: &[String],
@@ -156,7 +156,7 @@ fn logs_by(
     }
 }
 
-// How words ask for it to be told.
+// How words ask for the requests to be reported.
 fn telling_in(words: &[String]) -> LogTelling
     ensures { meant_telling result ≡ telling_in (map string_bytes words.now) }
 {
@@ -177,7 +177,7 @@ fn without_flags(alloc: Global, words: &[String]) -> Result<Vec<String>, AllocEr
     without_flag(alloc, DENIED, &others)
 }
 
-// What words ask, of which these name the profile and the time.
+// The logs that words ask for beside the profile and the time that they name.
 fn logs_named(alloc: Global, named: LogNamed) -> Result<Logs, ArgumentFault>
     ensures { IsGivenFor meant_logs (asked_named (seen_named named)) result }
 {
@@ -198,12 +198,12 @@ fn logs_named(alloc: Global, named: LogNamed) -> Result<Logs, ArgumentFault>
     }
 }
 
-/// What words behind `log` ask.
+/// The logs that words after `log` ask for.
 ///
 /// # Errors
 ///
 /// - `Bad` where `--profile` or `--since` has no value, or that of `--since` names no time (`aatry_words::time_named`).
-/// - Those of `check_of`, of the words without the options that `log` alone has.
+/// - Those of `check_of`, of the words without the options that only `log` has.
 #[tactic(auto, unfolding(crate::specs::LogWords::asked_logs))]
 pub fn logs_of(alloc: Global, words: &[String]) -> Result<Logs, ArgumentFault>
     ensures { IsGivenFor meant_logs (asked_logs (map string_bytes words.now)) result }

@@ -1,4 +1,4 @@
-//! Reading of the words behind `never` and `always`: but for what these alone have, as those behind `check` are read.
+//! Reading of the words after `never` and `always`: except for what only these have, like those after `check`.
 ghost use Rattle.std.specs.Prelude.{◌≡◌, IfOk, map, option_map, string_bytes};
 ghost use Rattle.aa_start.specs.Given.{IsGivenFor};
 ghost use Rattle.aa_start.specs.Options.{asked_then};
@@ -19,16 +19,16 @@ use std::alloc::{AllocError, Global};
 // The flag that asks for names alone.
 const NAMES: &str = "--names";
 
-// The option that takes how many sets are to be looked at.
+// The option that takes how many sets are looked at.
 const LIMIT: NamedOption = NamedOption {
     word: "--limit",
     opening: "--limit=",
 };
 
-// How many are, where no word says it.
+// How many sets are looked at, where no word says.
 const USUAL_LIMIT: usize = 262_144;
 
-// What help says of `never`.
+// The help on `never`.
 const NEVER_HELP: &str = "\
 Tells whether nothing of some access is let to any file of a pattern, or a path that says otherwise
 
@@ -65,7 +65,7 @@ Exit status:
   3  No line begins so, but one with many; or writing failed, or memory ran out
 ";
 
-// What help says of `always`.
+// The help on `always`.
 const ALWAYS_HELP: &str = "\
 Tells whether all of some access is let to each file of a pattern, or a path that says otherwise
 
@@ -109,7 +109,7 @@ pub struct PathsLimited {
     pub words: Vec<String>,
 }
 
-// The limit that a word names, where there is one; none where it names none.
+// The limit that a word names, where there is one; `None` where it names no number.
 fn limit_of(word: &Option<Vec<u8>>) -> Option<usize>
     ensures { result ≡ limit_of (option_map (λ word. word.items) word.now) }
 {
@@ -119,7 +119,7 @@ fn limit_of(word: &Option<Vec<u8>>) -> Option<usize>
     }
 }
 
-// The limit by what words say of it.
+// The limit, by the value of its option.
 fn limited_by(read: Option<WithValue>) -> Option<PathsLimited>
     ensures { option_map seen_limited result ≡ limited_by (option_map seen_value read) }
 {
@@ -128,7 +128,7 @@ fn limited_by(read: Option<WithValue>) -> Option<PathsLimited>
     Some(PathsLimited { limit, words })
 }
 
-/// The limit that words name, and the other words. None where they name it by what is no number.
+/// The limit that words name, and the other words. `None` where its value is no number.
 ///
 /// # Errors
 ///
@@ -139,12 +139,12 @@ pub fn limited_in(alloc: Global, words: &[String]) -> Result<Option<PathsLimited
     Ok(limited_by(value_of(alloc, LIMIT, words)?))
 }
 
-// What help says of the command.
+// The help on the command.
 fn help_of(always: bool) -> &'static str {
     if always { ALWAYS_HELP } else { NEVER_HELP }
 }
 
-// What words ask without those that `never` and `always` alone have.
+// The question of words without those that only `never` and `always` have.
 fn paths_by(
     alloc: Global,
     words: &[String],
@@ -165,7 +165,7 @@ fn paths_by(
     }
 }
 
-// What words ask, of which these name the limit.
+// The question of words beside the limit that they name.
 fn paths_limited(
     alloc: Global,
     always: bool,
@@ -180,12 +180,12 @@ fn paths_limited(
     }
 }
 
-/// What words behind `never`, or `always`, ask.
+/// The question of words after `never`, or `always`.
 ///
 /// # Errors
 ///
 /// - `Bad` where `--limit` has no value, or one that isn't a number of digits below 253,402,300,800.
-/// - Those of `who`, of the words without the options that these commands alone have.
+/// - Those of `who`, of the words without the options that only these commands have.
 #[tactic(auto, unfolding(crate::specs::PathsWords::asked_paths))]
 pub fn paths_of(alloc: Global, words: &[String], always: bool) -> Result<AllPaths, ArgumentFault>
     ensures { IsGivenFor meant_paths (asked_paths always (map string_bytes words.now)) result }

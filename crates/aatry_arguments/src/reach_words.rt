@@ -1,4 +1,4 @@
-//! Reading of the words behind `reach`: but for what that alone has, as those behind `check` are read.
+//! Reading of the words after `reach`: except for what only `reach` has, like those after `check`.
 ghost use Rattle.std.specs.Prelude.{map, string_bytes};
 ghost use Rattle.aa_start.specs.Given.{IsGivenFor};
 ghost use Rattle.aa_start.specs.Options.{asked_then};
@@ -17,7 +17,7 @@ use std::alloc::Global;
 // The flag that asks for a graph.
 const DOT: &str = "--dot";
 
-// What help says of `reach`.
+// The help on `reach`.
 const HELP: &str = "\
 Tells under which profiles programs may run that WHO starts, and those that these start
 
@@ -47,7 +47,7 @@ Exit status:
   3  There are too many different paths for the limit; or writing failed, or memory ran out
 ";
 
-// What words ask without those that `reach` alone has.
+// The question of words without those that only `reach` has.
 fn reach_by(
     alloc: Global,
     words: &[String],
@@ -62,7 +62,7 @@ fn reach_by(
     }
 }
 
-// What words ask, of which these name the limit.
+// The question of words beside the limit that they name.
 fn reach_limited(alloc: Global, limited: PathsLimited) -> Result<Reach, ArgumentFault>
     ensures { IsGivenFor meant_reach (asked_limited (seen_limited limited)) result }
 {
@@ -73,12 +73,12 @@ fn reach_limited(alloc: Global, limited: PathsLimited) -> Result<Reach, Argument
     }
 }
 
-/// What words behind `reach` ask.
+/// The question of words after `reach`.
 ///
 /// # Errors
 ///
 /// - `Bad` where `--limit` has no value, or one that isn't a number of digits below 253,402,300,800.
-/// - Those of `who`, of the words without the options that this command alone has.
+/// - Those of `who`, of the words without the options that only this command has.
 #[tactic(auto, unfolding(crate::specs::ReachWords::asked_reach))]
 pub fn reach_of(alloc: Global, words: &[String]) -> Result<Reach, ArgumentFault>
     ensures { IsGivenFor meant_reach (asked_reach (map string_bytes words.now)) result }

@@ -17,7 +17,7 @@ use crate::test_words::test_of;
 use aa_start::{ArgumentFault, VERSION};
 use std::alloc::Global;
 
-// What help says of the program.
+// The help on the program.
 const HELP: &str = "\
 Helps with AppArmor policy at a terminal
 
@@ -45,7 +45,7 @@ Options:
   -V, --version   Prints the version
 ";
 
-// The line that tells the version.
+// The line with the version.
 fn version(alloc: Global) -> ArgumentFault
     ensures { IsVersion result }
 {
@@ -55,7 +55,7 @@ fn version(alloc: Global) -> ArgumentFault
     }
 }
 
-// The command that a first word and those behind it ask for.
+// The command that a first word and the words after it ask for.
 fn command_by(alloc: Global, first: &str, words: &[String]) -> Result<Command, ArgumentFault>
     ensures { IsGivenFor meant_command (asked_by_first first.now (map string_bytes words.now)) result }
 {
@@ -76,7 +76,7 @@ fn command_by(alloc: Global, first: &str, words: &[String]) -> Result<Command, A
     }
 }
 
-/// The command that is asked for by the words behind the program's own name.
+/// The command that is asked for by the words after the program's own name.
 pub fn command_behind(alloc: Global, words: &[String]) -> Result<Command, ArgumentFault>
     ensures { IsGivenFor meant_command (asked (map string_bytes words.now)) result }
 {

@@ -1,4 +1,4 @@
-//! Reading of the words behind `check`: for rules that decide nothing where the flag `--rules` is among them, and else for a check of files.
+//! Reading of the words after `check`: for rules that decide nothing where the flag `--rules` is among them, and else for a check of files.
 ghost use Rattle.std.specs.Prelude.{map, string_bytes};
 ghost use Rattle.aa_start.specs.Given.{IsGivenFor};
 ghost use Rattle.aa_start.specs.Options.{asked_then};
@@ -21,7 +21,7 @@ const RULES: &str = "--rules";
 // The flag by which rules of included files are tried, too.
 const INCLUDED: &str = "--included";
 
-// What words ask without the flags and without the limit.
+// The check of rules that words ask for without the flags and without the limit.
 fn rules_by(
     alloc: Global,
     words: &[String],
@@ -40,7 +40,7 @@ fn rules_by(
     }
 }
 
-// What words ask, of which these name the limit.
+// The check of rules that words ask for beside the limit that they name.
 fn rules_limited(alloc: Global, limited: PathsLimited) -> Result<RulesCheck, ArgumentFault>
     ensures { IsGivenFor meant_rules (asked_limited (seen_limited limited)) result }
 {
@@ -51,7 +51,7 @@ fn rules_limited(alloc: Global, limited: PathsLimited) -> Result<RulesCheck, Arg
     }
 }
 
-// What words behind `check` ask beside the flag `--rules`.
+// The check of rules that words after `check` ask for beside the flag `--rules`.
 #[tactic(auto, unfolding(crate::specs::RulesWords::asked_rules))]
 fn rules_of(alloc: Global, words: &[String]) -> Result<RulesCheck, ArgumentFault>
     ensures { IsGivenFor meant_rules (asked_rules (map string_bytes words.now)) result }
@@ -63,13 +63,13 @@ fn rules_of(alloc: Global, words: &[String]) -> Result<RulesCheck, ArgumentFault
     }
 }
 
-/// What words behind `check` ask: which rules decide nothing where the flag `--rules` is among them, and else for a check of files.
+/// The check that words after `check` ask for: of rules that decide nothing where the flag `--rules` is among them, and else of files.
 ///
 /// # Errors
 ///
 /// Those of `check_of` where no word is the flag. Where one is, of the words without it:
 /// - `Bad` where `--limit` has no value, or one that isn't a number of digits below 253,402,300,800.
-/// - Of the others without the flag `--included`, those of `check_of`.
+/// - Of the rest without the flag `--included`, those of `check_of`.
 pub fn checks_of(alloc: Global, words: &[String]) -> Result<Command, ArgumentFault>
     ensures { IsGivenFor meant_command (asked_checks (map string_bytes words.now)) result }
 {

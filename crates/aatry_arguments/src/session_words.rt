@@ -1,4 +1,4 @@
-//! Reading of the words behind `session`: as those behind `check` are read.
+//! Reading of the words after `session`: like those after `check`.
 ghost use Rattle.std.specs.Prelude.{map, string_bytes};
 ghost use Rattle.aa_start.specs.Given.{IsGivenFor};
 ghost use Rattle.aatry_arguments.specs.Given.{meant_check, meant_session};
@@ -10,7 +10,7 @@ use crate::faults::passed_on;
 use aa_start::ArgumentFault;
 use std::alloc::Global;
 
-// What help says of `session`.
+// The help on `session`.
 const HELP: &str = "\
 Takes commands over a folder of policy, as they come: changes, questions, undo
 
@@ -38,7 +38,7 @@ Exit status:
   3  Reading or writing failed, or memory ran out
 ";
 
-// The session of what would be a check.
+// The session of words that were read as a check.
 fn session_by(check: Check) -> Result<Session, ArgumentFault>
     ensures { IsGivenFor meant_session (session_of (meant_check check)) result }
 {
@@ -49,7 +49,7 @@ fn session_by(check: Check) -> Result<Session, ArgumentFault>
     Ok(Session { base })
 }
 
-/// The session that words behind `session` ask for.
+/// The session that words after `session` ask for.
 ///
 /// # Errors
 ///

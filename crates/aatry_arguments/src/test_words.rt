@@ -1,4 +1,4 @@
-//! Reading of the words behind `test`: but for the flag that `test` alone has, as those behind `check` are read.
+//! Reading of the words after `test`: except for the flag that only `test` has, like those after `check`.
 ghost use Rattle.std.specs.Prelude.{map, string_bytes};
 ghost use Rattle.aa_start.specs.Given.{IsGivenFor};
 ghost use Rattle.aa_start.specs.Options.{asked_then};
@@ -13,10 +13,10 @@ use crate::flags::{is_given, without_flag};
 use aa_start::ArgumentFault;
 use std::alloc::Global;
 
-// The flag that asks for what is told to be accepted.
+// The flag that asks for the replies to be accepted.
 const ACCEPT: &str = "--accept";
 
-// What help says of `test`.
+// The help on `test`.
 const HELP: &str = "\
 Runs transcripts of commands over a folder of policy, and tells each reply that differs
 
@@ -56,7 +56,7 @@ Exit status:
   3  Writing failed, also that of a FILE, or memory ran out
 ";
 
-// The test of what would be a check.
+// The test of words that were read as a check.
 fn test_with(check: Check, accept: bool) -> Result<Test, ArgumentFault>
     ensures { IsGivenFor meant_test (test_of accept (meant_check check)) result }
 {
@@ -71,7 +71,7 @@ fn test_with(check: Check, accept: bool) -> Result<Test, ArgumentFault>
     })
 }
 
-// The same of words without the flag.
+// The test that words without the flag ask for.
 fn test_by(alloc: Global, words: &[String], accept: bool) -> Result<Test, ArgumentFault>
     ensures { IsGivenFor meant_test (asked_then (test_of accept) (asked_check (map string_bytes words.now))) result }
 {
@@ -81,7 +81,7 @@ fn test_by(alloc: Global, words: &[String], accept: bool) -> Result<Test, Argume
     }
 }
 
-/// The test that words behind `test` ask for.
+/// The test that words after `test` ask for.
 ///
 /// # Errors
 ///

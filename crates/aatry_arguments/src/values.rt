@@ -1,4 +1,4 @@
-//! The value of an option, taken out of words wherever the option stands among the others.
+//! The value of an option, taken out of words wherever the option is among the other words.
 
 ghost use Rattle.std.specs.Prelude.{◌≡◌, ◌∷◌, ◌⊎◌, ℕ, List, None, false, IfOk, map, option_map, string_bytes};
 ghost use Rattle.aatry_arguments.specs.Languages.{ends_options};
@@ -13,9 +13,9 @@ use std::alloc::{AllocError, Global};
 /// An option that takes a value.
 #[derive(Clone, Copy)]
 pub struct NamedOption {
-    /// Its word, behind which the value may stand.
+    /// Its word, after which the value may follow.
     pub word: &'static str,
-    /// How a word begins that has the value too.
+    /// The beginning of a word that holds the value too.
     pub opening: &'static str,
 }
 
@@ -39,7 +39,7 @@ fn value_within<'w>(opening: &str, word: &'w str) -> Option<&'w [u8]>
     }
 }
 
-// One more word behind those that were read, by whether a value has to come next or by the value so far: what comes next.
+// Reads one more word, given whether a value has to come next or the value so far; returns the same after it. Other words are appended to `others`.
 fn read_word(
     alloc: Global,
     option: NamedOption,
@@ -66,7 +66,7 @@ fn read_word(
     Ok(Some(so_far))
 }
 
-// The value that an option has, and the other words; none where a value has to come.
+// The value that an option has, and the other words; `None` where a value is missing.
 fn with_value(value: Option<Option<Vec<u8>>>, words: Vec<String>) -> Option<WithValue>
     ensures { option_map seen_value result
         ≡ value_with (map string_bytes words.items) (option_map (option_map (λ value. value.items)) value) }
@@ -77,7 +77,7 @@ fn with_value(value: Option<Option<Vec<u8>>>, words: Vec<String>) -> Option<With
     })
 }
 
-/// What words say of an option, ahead of the first behind which none is an option: the last value that it has. None where a value that has to come is missing.
+/// The last value that an option has among words, before the first `--`, and the other words. `None` where a value is missing.
 ///
 /// # Errors
 ///

@@ -1,4 +1,4 @@
--- What is told of a change of policy (docs/aatry.md).
+-- The report on a change of policy (docs/aatry.md).
 use Rattle.std.specs.Prelude.{ℕ, if◌then◌else◌, List, [], ◌∷◌, ◌++◌, codes, flat_map}
 use Rattle.serde_json.specs.Data.{Members}
 use Rattle.aa_bytes.specs.Bytes.{line_feed}
@@ -21,45 +21,44 @@ use Rattle.aatry_uncertain.specs.LeftOutHeads.{LeftOutHead, has_name}
 abbrev pub headed_line : List ℕ → List ℕ → List ℕ
 headed_line word name = word ++ codes ": " ++ shown name ++ line_feed ∷ []
 
--- the same as a record
+-- the record of a part: a word, which is its kind, and its full name
 abbrev pub headed_record : List ℕ → List ℕ → Members
 headed_record word name = with_text (codes "name") name (record_of word)
 
--- what is told of a part before its lines
+-- the heading of a part
 abbrev pub headed : Form → List ℕ → List ℕ → List ℕ
 headed Lines word name = headed_line word name
 headed Records word name = record_line (headed_record word name)
 
--- What is told of a part that is changed before its lines, by those that it has by itself: as a line nothing where it has none, since then each
--- change that it shares names it.
+-- The heading of a changed part, by the features that it has by itself: no line where it has none, since then each change that it shares names it.
 abbrev pub changed_heading : Form → List ℕ → List Feature → List Feature → List ℕ
 changed_heading Lines name less more = if differ less more then headed Lines (codes "changed") name else []
 changed_heading Records name less more = headed Records (codes "changed") name
 
--- what the old part has alone, and what the new one has alone
+-- what only the old part has, and what only the new one has
 abbrev pub below_text : Form → FolderParts → FolderParts → Part → Part → List Feature → List Feature → List ℕ
 below_text form old new part other less more = told_lines form old part [] Old less ++ told_lines form new other [] New more
 
--- what is told of a part that is changed, by what it has by itself
+-- the report on a changed part, by what it has by itself
 abbrev pub own_text : Form → FolderParts → FolderParts → Part → Part → List Feature → List Feature → List ℕ
 own_text form old new part other less more = changed_heading form part.name less more ++ below_text form old new part other less more
 
--- the word for a part that the new folder hasn't: it is unread where one of its files that are left out has the name of its profile, and else gone
+-- the word for a part that the new folder lacks: it is unread where one of its files that are left out has the name of its profile, and else gone
 abbrev pub gone_word : List LeftOutHead → List ℕ → List ℕ
 gone_word heads name = if has_name heads name then codes "unread" else codes "gone"
 
--- what is told of such a part
+-- the report on a part that the new folder lacks
 abbrev pub gone_text : Form → List LeftOutHead → Part → List ℕ
 gone_text form heads part = headed form (gone_word heads part.name) part.name
 
--- what is told of what changes of a part: that it is gone, unread or new, or what isn't shared of it
+-- the report on what changes of a part: that it is gone, unread or new, or what isn't shared of it
 abbrev pub told_change : Form → List LeftOutHead → FolderParts → FolderParts → List Group → PartChange → List ℕ
 told_change form heads old new groups (OfGone part) = gone_text form heads part
 told_change form heads old new groups (OfNew part) = headed form (codes "new") part.name
 told_change form heads old new groups (OfChanged part other less more) =
     own_text form old new part other (own_features groups part Old less) (own_features groups other New more)
 
--- what is told of what changes: what is shared first, and then what each part has by itself
+-- the report on what changes: what is shared first, and then what each part has by itself
 abbrev pub told_changes : Form → List LeftOutHead → FolderParts → FolderParts → List Group → List PartChange → List ℕ
 told_changes form heads old new groups changes =
     shared_lines form old.below new.below groups ++ flat_map (told_change form heads old new groups) changes
@@ -67,6 +66,6 @@ told_changes form heads old new groups changes =
 abbrev pub folded_lines : Form → List LeftOutHead → FolderParts → FolderParts → List PartChange → List ℕ
 folded_lines form heads old new changes = told_changes form heads old new (groups_of changes) changes
 
--- what is told of two folders, of the new one of which files with these heads are left out
+-- the report on two folders, where files with these heads are left out of the new one
 abbrev pub change_lines : Form → List LeftOutHead → FolderParts → FolderParts → List ℕ
 change_lines form heads old new = folded_lines form heads old new (part_changes old new)

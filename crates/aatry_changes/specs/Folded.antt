@@ -12,21 +12,21 @@ abbrev pub having_if : Part → Option Change → List Having
 having_if part None = []
 having_if part (Some change) = record { name = part.name; change = change } ∷ []
 
--- the change that a feature is which one side of a part has alone, if others may share it
+-- the change of a feature that only one side of a part has, if other parts may share it
 abbrev pub having_of : Part → Side → Feature → List Having
 having_of part side feature = having_if part (change_at part side feature)
 
--- the same of some features
+-- the changes of features that only one side of a part has, as far as other parts may share them
 abbrev pub havings_of : Part → Side → List Feature → List Having
 havings_of part side features = flat_map (having_of part side) features
 
--- the changes that others may share of what changes of a part
+-- what changes of a part, as far as other parts may share it
 abbrev pub havings_in : PartChange → List Having
 havings_in (OfGone part) = []
 havings_in (OfNew part) = []
 havings_in (OfChanged part other less more) = havings_of part Old less ++ havings_of other New more
 
--- the same of some parts
+-- what changes of some parts, as far as other parts may share it
 abbrev pub all_havings : List PartChange → List Having
 all_havings changes = flat_map havings_in changes
 
@@ -39,13 +39,13 @@ abbrev pub is_own_change : List Group → Option Change → Bool
 is_own_change groups None = true
 is_own_change groups (Some change) = not (is_shared groups change)
 
--- a feature that one side of a part has alone is told below the part: no change that is shared
+-- a feature that only one side of a part has is reported below the part: it is no shared change
 abbrev pub is_own : List Group → Part → Side → Feature → Bool
 is_own groups part side feature = is_own_change groups (change_at part side feature)
 
 abbrev pub own_if : List Group → Part → Side → Feature → List Feature
 own_if groups part side feature = if is_own groups part side feature then feature ∷ [] else []
 
--- those of some features
+-- the features that are reported below the part
 abbrev pub own_features : List Group → Part → Side → List Feature → List Feature
 own_features groups part side features = flat_map (own_if groups part side) features

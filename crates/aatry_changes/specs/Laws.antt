@@ -1,4 +1,4 @@
--- What the laws on changes speak of: parts that are alike, and that answer alike; and where a change is told.
+-- Definitions for the laws on changes: parts that are alike, and that answer alike; and where a change is reported.
 use Rattle.std.specs.Prelude.{◌≡◌, ◌<◌, ◌^◌, ◌⊎◌, ℕ, Bool, true, false, List, [], ◌∷◌, Some}
 use Rattle.std.specs.List.{All, Contains}
 use Rattle.aa_decide_rules.specs.Choices.{choice}
@@ -18,14 +18,14 @@ use Rattle.aatry_shared.specs.declared.side.Side.{Side}
 abbrev pub HasAlike : List Part → Part → Type 0
 HasAlike others part = (other : Part) × (part_of others part.name ≡ Some other) × (are_alike part.section other.section ≡ true)
 
--- they have such a one for each of these
+-- some parts have a part that is alike for each of these
 abbrev pub HaveAlike : List Part → List Part → Type 0
 HaveAlike others [] = Unit
 HaveAlike others (part ∷ parts) = HasAlike others part × HaveAlike others parts
 
 -- Two parts decide alike, whatever is asked: they are in one mode, or both disabled; each verdict is the same, with its tag and its mask, whatever
--- becomes of what the rules don't allow; and so is what their rules say together of the start of a program, where those of one agree (as the rules of
--- a file that was read do), their patterns read, and its path is a list of bytes.
+-- the mediation; and so is what their rules say together of the start of a program, where those of one agree (as the rules of a file that was read
+-- do), their patterns read, and its path is a list of bytes.
 pub record AnswerAlike (part other : Part) : Type 0 where
   pub mode : part.section.mode ≡ other.section.mode
   pub verdicts :
@@ -40,17 +40,17 @@ pub record AnswerAlike (part other : Part) : Type 0 where
 abbrev pub HasAnsweringAlike : List Part → Part → Type 0
 HasAnsweringAlike others part = (other : Part) × (part_of others part.name ≡ Some other) × AnswerAlike part other
 
--- a feature that one side of a part has alone is told below the part
+-- a feature that only one side of a part has is reported below the part
 abbrev pub IsToldBelow : List Group → Part → Side → List Feature → Feature → Type 0
 IsToldBelow groups part side features feature =
     (is_own groups part side feature ≡ true) × Contains (own_features groups part side features) feature
 
--- it isn't, and exactly one change among those that are shared is this one and names the part
+-- a feature isn't reported below the part, and exactly one shared change is this one and names the part
 abbrev pub IsToldShared : List Group → Part → Side → Feature → Type 0
 IsToldShared groups part side feature =
     (is_own groups part side feature ≡ false)
     × ((change : Change) × (change_at part side feature ≡ Some change) × IsNamedOnce (shared groups) (record { name = part.name; change = change }))
 
--- it is told in one of the two ways
+-- a feature is reported in one of the two ways
 abbrev pub IsTold : List Group → Part → Side → List Feature → Feature → Type 0
 IsTold groups part side features feature = IsToldBelow groups part side features feature ⊎ IsToldShared groups part side feature

@@ -13,7 +13,7 @@ use Rattle.aatry_policy.specs.SeenProfiles.{seen_part}
 abbrev pub alone : Part → Part → List Feature
 alone part other = lacking (features_of other.section) (features_of part.section)
 
--- one of two sides has something alone
+-- only one of two sides has something
 abbrev pub differ : List Feature → List Feature → Bool
 differ less more = not (is_empty less && is_empty more)
 
@@ -37,14 +37,14 @@ is_new old part = is_none (part_of old.parts part.name)
 abbrev pub changed_count : FolderParts → FolderParts → ℕ
 changed_count old new = length (filter (is_gone_or_changed new) old.parts) + length (filter (is_new old) new.parts)
 
--- a part that is gone; one that is new; or a part of the old folder, the one of its full name in the new one, what the old one has alone, and what the
--- new one has alone
+-- a part that is gone; one that is new; or a part of the old folder, the one of its full name in the new one, what only the old one has, and what
+-- only the new one has
 pub data PartChange : Type 0 where
   OfGone : Part → PartChange
   OfNew : Part → PartChange
   OfChanged : (part other : Part) (less more : List Feature) → PartChange
 
--- what changes of a part, by what either side has alone
+-- what changes of a part, by what only one side has
 abbrev pub changed_by : Part → Part → List Feature → List Feature → List PartChange
 changed_by part other less more = if differ less more then OfChanged part other less more ∷ [] else []
 

@@ -1,2 +1,2 @@
--- What is about the code: changes of parts that are gathered, one part behind the other.
+-- Definitions about the code: changes of parts that are gathered, one part after the other.
 pub mod Steps

@@ -1,4 +1,4 @@
-//! What is told of profiles, children and hats that are new, gone or changed.
+//! The report on profiles, children and hats that are new, gone or changed.
 
 ghost use Rattle.std.specs.Prelude.{◌≡◌, ◌++◌, IfOk, OnOk, flat_map, map};
 ghost use Rattle.aa_explain_diff.specs.Features.{seen_feature};
@@ -22,7 +22,7 @@ use aatry_shared::{
 };
 use std::alloc::{AllocError, Global};
 
-// Appends what is told of a part that is changed before its lines to a text, by those that it has by itself.
+// Appends the heading of a changed part to a text, by the features that it has by itself.
 fn push_heading(
     teller: Teller,
     name: &[u8],
@@ -45,7 +45,7 @@ fn push_heading(
     }
 }
 
-// Appends the lines to a text that the old part has alone, and then those that the new one has alone.
+// Appends the lines to a text that only the old part has, and then those that only the new one has.
 fn push_below(
     finders: &mut Finders<'_>,
     teller: Teller,
@@ -74,7 +74,7 @@ fn push_below(
     push_lines(&mut finders.of_new, teller, &new, "", more, out)
 }
 
-// Appends what is told of a part that is changed to a text, by what it has by itself.
+// Appends the report on a changed part to a text, by what it has by itself.
 fn push_own(
     finders: &mut Finders<'_>,
     teller: Teller,
@@ -93,7 +93,7 @@ fn push_own(
     push_below(finders, teller, pair, less, more, out)
 }
 
-// The same by all that it has alone, and by what is shared.
+// Appends the report on a changed part to a text, by all that only one side has, and by what is shared.
 fn push_changed(
     finders: &mut Finders<'_>,
     teller: Teller,
@@ -115,7 +115,7 @@ fn push_changed(
     push_own(finders, teller, pair, &less, &more, out)
 }
 
-// Appends what is told of what changes of a part to a text.
+// Appends the report on what changes of a part to a text.
 fn push_change(
     finders: &mut Finders<'_>,
     teller: Teller,
@@ -152,7 +152,7 @@ fn push_change(
     }
 }
 
-// The same of some parts.
+// Appends the report on what changes of some parts to a text.
 fn push_each(
     finders: &mut Finders<'_>,
     teller: Teller,
@@ -174,7 +174,7 @@ fn push_each(
     Ok(())
 }
 
-// Appends what is told of what changes to a text: what is shared first, and then what each part has by itself.
+// Appends the report on all changes to a text: what is shared first, and then what each part has by itself.
 fn push_folded(
     teller: Teller,
     compared: &Compared<'_>,
@@ -190,21 +190,21 @@ fn push_folded(
     push_each(&mut finders, teller, compared, sharing, changes, out)
 }
 
-/// Puts what a change of policy changes behind a text. A part that is gone is told as unread where a file of the new folder is left out that has the name of
-/// its profile, as far as that can be read. First stands each change that two or more parts have, a rule that is written at one place and told
-/// alike, once, with the full names of those that have it (`aatry_shared::push_shared`). Then stands each part of the old folder that is gone or
-/// changed, in their order, and then each of the new folder that is new. Behind one that is changed stands each line that tells of the old part
-/// alone, and then each that tells of the new one alone, but for those that are shared: its mode, a flag, an attachment, or a rule, with the
-/// place where it is written. Lines that tell the same are equal, wherever they are written. Gives how many parts are gone, changed or new.
+/// Appends the report on what a change of policy changes to a text. A part that is gone is reported as unread where a file of the new folder is left
+/// out that has the name of its profile, as far as that can be read. First comes each change that two or more parts have, a rule that is written at
+/// one place and reported alike, once, with the full names of those that have it (`aatry_shared::push_shared`). Then comes each part of the old
+/// folder that is gone or changed, in their order, and then each of the new folder that is new. A changed part is followed by each line that only
+/// the old part has, and then by each that only the new one has, without those that are shared: its mode, a flag, an attachment, or a rule, with the
+/// place where it is written. Equal things have equal lines, wherever they are written. Returns how many parts are gone, changed or new.
 ///
-/// As lines, a word and the full name tell a part, and the lines of the old part alone stand behind `- `, and those of the new one behind `+ `; one of
-/// which all that is changed is shared is told by that alone. As records, a part's kind is `gone`, `unread`, `changed` or `new`, with its full name
-/// (`name`), and its lines are of the kinds `less` and `more`, with the part's full name (`name`), what is told (`text`), and of a rule where
-/// it stands (`aatry_why_lines::put_where`).
+/// As lines, a part is a word and the full name, and the lines of the old part alone follow `- `, and those of the new one `+ `; a part of which all
+/// that is changed is shared has no lines of its own. As records, a part's kind is `gone`, `unread`, `changed` or `new`, with its full name
+/// (`name`), and its lines are of the kinds `less` and `more`, with the part's full name (`name`), the text of the line (`text`), and of a rule
+/// where it is written (`aatry_why_lines::put_where`).
 ///
 /// # Errors
 ///
-/// Where memory runs out. A beginning may have been put then.
+/// Where memory runs out. A beginning may have been appended then.
 pub fn push_changes(
     teller: Teller,
     compared: &Compared<'_>,

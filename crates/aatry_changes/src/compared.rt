@@ -8,7 +8,7 @@ use aatry_uncertain::LeftOutHeads;
 pub struct Compared<'a> {
     /// The old one.
     pub old: &'a FolderParts<'a>,
-    /// The one that is to take its place.
+    /// The new one.
     pub new: &'a FolderParts<'a>,
     /// The heads of profiles in those of its files that are left out.
     pub left_out: &'a LeftOutHeads<'a>,

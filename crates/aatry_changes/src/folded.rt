@@ -14,7 +14,7 @@ use aatry_policy::Part;
 use aatry_shared::{Sharing, Side, change_at};
 use std::alloc::{AllocError, Global};
 
-// Adds the change that a feature is which one side of a part has alone, if others may share it.
+// Adds a feature that only one side of a part has to the shared changes, if other parts may share it.
 fn add_feature<'a>(
     alloc: Global,
     part: &'a Part<'a>,
@@ -30,7 +30,7 @@ fn add_feature<'a>(
     }
 }
 
-// The same of some features.
+// Adds features that only one side of a part has to the shared changes, as far as other parts may share them.
 fn add_features<'a>(
     alloc: Global,
     part: &'a Part<'a>,
@@ -48,7 +48,7 @@ fn add_features<'a>(
     Ok(())
 }
 
-// Adds the changes that others may share of what changes of a part.
+// Adds what changes of a part to the shared changes, as far as other parts may share it.
 #[tactic(auto, using(crate::proofs::FoldLemmas::gathered_both))]
 fn add_change<'a>(
     alloc: Global,
@@ -66,7 +66,7 @@ fn add_change<'a>(
     }
 }
 
-// The same of some parts.
+// Adds what changes of some parts to the shared changes, as far as other parts may share it.
 fn add_changes<'a>(
     alloc: Global,
     changes: &[PartChange<'a>],
@@ -96,7 +96,7 @@ pub fn sharing_of<'a>(alloc: Global, changes: &[PartChange<'a>]) -> Result<Shari
     Ok(sharing)
 }
 
-// Whether a feature that one side of a part has alone is told below the part.
+// Whether a feature that only one side of a part has is reported below the part.
 fn is_own(
     alloc: Global,
     sharing: &Sharing<'_>,
@@ -112,7 +112,7 @@ fn is_own(
     }
 }
 
-// Appends such a feature to others.
+// Appends a feature that only one side of a part has to `features`, if it is reported below the part.
 fn push_if_own<'a>(
     alloc: Global,
     sharing: &Sharing<'_>,
@@ -130,7 +130,7 @@ fn push_if_own<'a>(
     Ok(())
 }
 
-/// Those features that one side of a part has alone and that are told below the part: changes that aren't shared.
+/// The features that only one side of a part has and that are reported below the part: changes that aren't shared.
 ///
 /// # Errors
 ///

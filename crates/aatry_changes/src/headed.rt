@@ -1,4 +1,4 @@
-//! What stands at the head of what is told of a profile, child or hat.
+//! The heading of the report on a profile, child or hat.
 
 ghost use Rattle.std.specs.Prelude.{◌≡◌, ◌++◌, IfOk, OnOk};
 ghost use Rattle.aatry_changes.specs.Changes.{gone_text, gone_word, headed, headed_line, headed_record};
@@ -35,7 +35,7 @@ pub fn headed_record(alloc: Global, word: &str, name: &[u8]) -> Result<Record, A
     Ok(made)
 }
 
-/// Appends what is told of a profile, child or hat before its lines to a text: a line with a word and its full name, or the record of that.
+/// Appends the heading of a profile, child or hat to a text: a line with a word and its full name, or the record of that.
 ///
 /// # Errors
 ///
@@ -54,7 +54,7 @@ pub fn push_headed(
     }
 }
 
-// The word for a part that the new folder hasn't, by the heads of profiles in those of its files that are left out.
+// The word for a part that the new folder lacks, by the heads of profiles in those of its files that are left out.
 fn gone_word(left_out: &LeftOutHeads<'_>, name: &[u8]) -> &'static str
     ensures { result.now ≡ gone_word (all_left_out left_out.now.heads.items) name.now }
 {
@@ -65,8 +65,8 @@ fn gone_word(left_out: &LeftOutHeads<'_>, name: &[u8]) -> &'static str
     }
 }
 
-/// Appends what is told of a part to a text that the old folder has alone: that it is gone, or unread, where a file of the new folder is left out that has the
-/// name of its profile, as far as that can be read.
+/// Appends the report on a part that only the old folder has to a text: that it is gone, or unread, where a file of the new folder is left out that
+/// has the name of its profile, as far as that can be read.
 ///
 /// # Errors
 ///

@@ -1,4 +1,4 @@
-//! What holds of what is told of two folders, as laws over the definitions that the calls are proved to follow.
+//! What holds of the report on two folders, as laws over the definitions that the calls are proved to follow.
 
 ghost use Rattle.std.specs.Prelude.{◌≡◌, ◌==◌, ℕ, List, [], not, true};
 ghost use Rattle.std.specs.List.{Contains};
@@ -20,8 +20,9 @@ ghost use Rattle.aatry_uncertain.specs.LeftOutHeads.{LeftOutHead};
 use aa_explain_diff::sections_alike_answer_alike;
 use aatry_shared::what_is_shared_is_told_once;
 
-/// Nothing is told of two folders, in either form, where each part of either has one of its full name in the other, and neither of the two has something
-/// that the other lacks, wherever their rules are written. And where nothing changes of a part of the old folder, the new one has such a part.
+/// Nothing is reported on two folders, in either form, where each part of either has one of its full name in the other, and neither of the two has
+/// something that the other lacks, wherever their rules are written. And where nothing changes of a part of the old folder, the new one has such a
+/// part.
 pub fn when_nothing_is_told()
     ensures of_alike { (form : Form) (heads : List LeftOutHead) (old new : FolderParts)
         → HaveAlike old.parts new.parts
@@ -30,8 +31,8 @@ pub fn when_nothing_is_told()
     ensures only_of_alike { (new : FolderParts) (part : Part) → old_change new part ≡ [] → HasAlike new.parts part }
 {}
 
-/// Where nothing changes of a part of the old folder, the new one has a part of its full name that decides as it does, whatever is asked: it is in the same
-/// mode or disabled too, no verdict is another one, and no line that logs one. So it is of each part where nothing is told of the folders.
+/// Where nothing changes of a part of the old folder, the new one has a part of its full name that decides as it does, whatever is asked: it is in
+/// the same mode or disabled too, no verdict differs, and no line that logs one. This holds of each part where nothing is reported on the folders.
 pub fn what_is_not_told_answers_alike()
     ensures of_a_part { (new : FolderParts) (part : Part) → old_change new part ≡ [] → HasAnsweringAlike new.parts part }
     ensures of_all { (form : Form) (heads : List LeftOutHead) (old new : FolderParts) (part : Part)
@@ -43,8 +44,9 @@ pub fn what_is_not_told_answers_alike()
     sections_alike_answer_alike();
 }
 
-/// What is counted changes, and is told, in either form: something changes of a part of the old folder exactly where it is gone or changed, of a part of
-/// the new one exactly where it is new, and something is told of the folders, what differs or how much, exactly where there is such a part.
+/// What is counted changes, and is reported, in either form: something changes of a part of the old folder exactly where it is gone or changed, of a
+/// part of the new one exactly where it is new, and something is reported on the folders, what differs or how much, exactly where there is such a
+/// part.
 pub fn what_is_counted_is_told()
     ensures of_the_old { (new : FolderParts) (part : Part) → is_empty (old_change new part) ≡ not (is_gone_or_changed new part) }
     ensures of_the_new { (old : FolderParts) (part : Part) → is_empty (new_change old part) ≡ not (is_new old part) }
@@ -52,9 +54,9 @@ pub fn what_is_counted_is_told()
     ensures of_stat { (form : Form) (heads : List LeftOutHead) (old new : FolderParts) → is_empty (stat_lines form heads old new) ≡ (changed_count old new == 0) }
 {}
 
-/// Each thing that one side of a part has alone is told once: below the part, or in exactly one change among those that are shared, which names the part.
-/// And nothing else is told: what stands below a part it has alone, and it isn't shared; and a change that is shared names two parts or more, each of
-/// which has it.
+/// Each thing that only one side of a part has is reported once: below the part, or in exactly one shared change, which names the part. And nothing
+/// else is reported: what is below a part only one side of it has, and it isn't shared; and a shared change names two parts or more, each of which
+/// has it.
 pub fn what_is_folded_is_told()
     ensures of_the_old { (changes : List PartChange) (part other : Part) (less more : List Feature) (feature : Feature)
         → Contains changes (OfChanged part other less more)

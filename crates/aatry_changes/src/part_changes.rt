@@ -10,31 +10,31 @@ use aa_explain_diff::{Feature, features_of, lacking};
 use aatry_policy::{FolderParts, Part, part_of};
 use std::alloc::{AllocError, Global};
 
-/// A part of the old folder, and the one of its full name in the new one, of which one has something that the other lacks.
+/// A part of the old folder, and the part of its full name in the new one, of which one has something that the other lacks.
 #[derive(Drop)]
 pub struct ChangedPart<'a> {
     /// The part of the old folder.
     pub part: &'a Part<'a>,
-    /// The one of the new folder.
+    /// The part of the new folder.
     pub other: &'a Part<'a>,
-    /// What the old one has alone.
+    /// What only the old one has.
     pub less: Vec<Feature<'a>>,
-    /// What the new one has alone.
+    /// What only the new one has.
     pub more: Vec<Feature<'a>>,
 }
 
 /// What changes of a part.
 #[derive(Drop)]
 pub enum PartChange<'a> {
-    /// The old folder has one of the full name, and the new one has none.
+    /// The old folder has a part of the full name, and the new one has none.
     Gone(&'a Part<'a>),
-    /// The new folder has one of the full name, and the old one has none.
+    /// The new folder has a part of the full name, and the old one has none.
     New(&'a Part<'a>),
-    /// Both have one, and these differ.
+    /// Both have a part of the full name, and these differ.
     Changed(ChangedPart<'a>),
 }
 
-// Appends what changes of a part of both folders to what is found, by what either has alone.
+// Appends what changes of a part of both folders to the changes found, by what only one side has.
 fn push_differing<'a>(
     part: &'a Part<'a>,
     other: &'a Part<'a>,
@@ -57,7 +57,7 @@ fn push_differing<'a>(
     Ok(())
 }
 
-// The same by what both have.
+// Appends what changes of a part of both folders to the changes found, by what both sides have.
 fn push_between<'a>(
     alloc: Global,
     part: &'a Part<'a>,
@@ -74,7 +74,7 @@ fn push_between<'a>(
     push_differing(part, other, less, more, found)
 }
 
-// Appends what changes of a part of both folders to what is found.
+// Appends what changes of a part of both folders to the changes found.
 fn push_changed<'a>(
     alloc: Global,
     part: &'a Part<'a>,
@@ -88,7 +88,7 @@ fn push_changed<'a>(
     push_between(alloc, part, other, &before, &after, found)
 }
 
-// Appends what changes of a part of the old folder to what is found.
+// Appends what changes of a part of the old folder to the changes found.
 fn push_old<'a>(
     alloc: Global,
     new: &FolderParts<'a>,
@@ -106,7 +106,7 @@ fn push_old<'a>(
     }
 }
 
-// Appends what changes of a part of the new folder to what is found.
+// Appends what changes of a part of the new folder to the changes found.
 fn push_new<'a>(
     old: &FolderParts<'a>,
     part: &'a Part<'a>,
@@ -123,7 +123,7 @@ fn push_new<'a>(
     }
 }
 
-// Appends what changes of parts of the old folder to what is found.
+// Appends what changes of parts of the old folder to the changes found.
 fn push_old_parts<'a>(
     alloc: Global,
     new: &FolderParts<'a>,
@@ -140,7 +140,7 @@ fn push_old_parts<'a>(
     Ok(())
 }
 
-// Appends what changes of parts of the new folder to what is found.
+// Appends what changes of parts of the new folder to the changes found.
 fn push_new_parts<'a>(
     old: &FolderParts<'a>,
     parts: &'a [Part<'a>],

@@ -14,7 +14,7 @@ use aatry_report::{Form, Record, Teller, push_number, push_shown};
 use aatry_uncertain::LeftOutHeads;
 use std::alloc::{AllocError, Global};
 
-// Appends the line of a part that is changed to a text, by how many lines the old one and the new one have alone.
+// Appends the line of a changed part to a text, by how many lines only the old one and only the new one have.
 fn push_stat_line(
     name: &[u8],
     less: usize,
@@ -31,7 +31,7 @@ fn push_stat_line(
     Ok(())
 }
 
-// The same as a record.
+// The record of a changed part, by how many lines only the old one and only the new one have.
 fn stat_record(alloc: Global, name: &[u8], less: usize, more: usize) -> Result<Record, AllocError>
     ensures { IfOk result (λ made. seen_record made ≡ stat_record name.now less more) }
 {
@@ -41,7 +41,7 @@ fn stat_record(alloc: Global, name: &[u8], less: usize, more: usize) -> Result<R
     Ok(made)
 }
 
-// Appends what is told of a part that is changed to a text.
+// Appends the counts of a changed part to a text.
 fn push_stat_changed(
     teller: Teller,
     name: &[u8],
@@ -79,7 +79,7 @@ fn push_stat_change(
     }
 }
 
-// The same of some parts.
+// Appends how much changes of some parts to a text.
 fn push_each(
     teller: Teller,
     left_out: &LeftOutHeads<'_>,
@@ -96,12 +96,12 @@ fn push_each(
     Ok(())
 }
 
-/// Appends how much a change of policy changes to a text: each part of the old folder that is gone, unread (`push_changes`) or changed, in their order, and then each of the new
-/// folder that is new; of one that is changed how many lines `push_changes` tells of the old part alone, and how many of the new one, those that are
-/// shared too. Gives how many parts are gone, changed or new.
+/// Appends how much a change of policy changes to a text: each part of the old folder that is gone, unread (`push_changes`) or changed, in their
+/// order, and then each of the new folder that is new; of a changed one how many lines `push_changes` appends of the old part alone, and how many of
+/// the new one, with those that are shared. Returns how many parts are gone, changed or new.
 ///
-/// As lines, a word and the full name tell a part, and behind one that is changed stands `(-LESS +MORE)`. As records, a part's kind is `gone`, `unread`, `changed` or
-/// `new`, with its full name (`name`), and one that is changed has the numbers `less` and `more`.
+/// As lines, a part is a word and the full name, and for a changed one they are followed by `(-LESS +MORE)`. As records, a part's kind is `gone`,
+/// `unread`, `changed` or `new`, with its full name (`name`), and a changed one has the numbers `less` and `more`.
 ///
 /// # Errors
 ///

@@ -1,4 +1,4 @@
--- What a check of a folder of policy comes to.
+-- The outcome of a check of a folder of policy.
 use Rattle.std.specs.Prelude.{◌≡◌, ◌==◌, ℕ, List, [], if◌then◌else◌, length, Option}
 use Rattle.aa_profile_parsing.specs.declared.language.Language.{Language}
 use Rattle.aa_text_files.specs.Files.{File}
@@ -12,15 +12,15 @@ use Rattle.aatry_folder.specs.Reports.{Report}
 use Rattle.aatry_folder.specs.Told.{ToldFolders}
 use Rattle.aatry_report.specs.declared.form.Form.{Form}
 
--- the names that are given, and others where none is
+-- the given names, and others where none is given
 abbrev pub given_or : List (List ℕ) → List (List ℕ) → List (List ℕ)
 given_or others given = if length given == 0 then others else given
 
--- the files that are meant: those that are given, and all that are tried where none is
+-- the files that are meant: the given ones, or all that are tried where none is given
 abbrev pub meant : List TopFile → List (List ℕ) → List (List ℕ)
 meant top given = given_or (file_names top) given
 
--- The files that are meant were checked over all that lies below the folder, by a language: the text tells each of them, with how it is loaded,
+-- The files that are meant were checked over all that lies below the folder, by a language: the text reports each of them, with how it is loaded,
 -- nothing is noted, and so many failed as were refused.
 pub record IsChecked (form : Form) (language : Language) (folders : ToldFolders) (known : Known) (base : List ℕ) (given : List (List ℕ)) (report : Report) : Type 0 where
   pub files : List File

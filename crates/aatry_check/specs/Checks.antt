@@ -1,4 +1,4 @@
--- What is told of files of policy that are checked.
+-- The report on files of policy that are checked.
 use Rattle.std.specs.Prelude.{◌≡◌, ◌+◌, ℕ, List, [], ◌∷◌, ◌++◌, codes, if◌then◌else◌, Option, None, Some, Result, Ok, Err}
 use Rattle.std.specs.Str.{bytes_eq}
 use Rattle.serde_json.specs.Data.{Members}
@@ -26,25 +26,25 @@ use Rattle.aatry_report.specs.Taken.{taken_line}
 use Rattle.aatry_report.specs.declared.form.Form.{Form}
 use Rattle.aatry_report.specs.declared.form.Form.TheVariants.{Lines, Records}
 
--- which file includes the one that a fault stands in, where it isn't that file itself
+-- which file includes the file of a fault, where it isn't that file itself
 abbrev pub included_line : List ℕ → List ℕ → List ℕ → List ℕ
 included_line base name faulty = if bytes_eq name faulty then [] else codes "  included from " ++ shown (path_below base name) ++ line_feed ∷ []
 
--- the same of a place in a file, if there is one
+-- which file includes the file of a place, if there is one and it isn't that file itself
 abbrev pub included_lines : List File → List ℕ → List ℕ → Option Place → List ℕ
 included_lines files base name None = []
 included_lines files base name (Some place) = included_line base name (name_at files place.file)
 
--- a record with the same
+-- a record with which file includes the file of a fault
 abbrev pub with_included : List ℕ → List ℕ → List ℕ → Members → Members
 with_included base name faulty members = if bytes_eq name faulty then members else with_text (codes "included_from") (path_below base name) members
 
--- what is told below a refusal of the rule before, with which the refused one conflicts, if there is one
+-- the report below a refusal on the earlier rule, with which the refused one conflicts, if there is one
 abbrev pub earlier_lines : List File → List ℕ → Option Place → List ℕ
 earlier_lines files base None = []
 earlier_lines files base (Some place) = other_lines files base place
 
--- a record with the same
+-- a record with the earlier rule
 abbrev pub with_earlier : List File → List ℕ → Option Place → Members → Members
 with_earlier files base None members = members
 with_earlier files base (Some place) members = with_other files base place members
@@ -56,12 +56,12 @@ with_refusal words files base name number (Some place) members =
     with_included base name (name_at files place.file)
     (with_fault words (path_below base (name_at files place.file)) number (Some place.at) (bytes_at files place.file) members)
 
--- a record of a file that is refused, in these words, and of the rule before, if there is one
+-- a record of a file that is refused, in these words, and of the earlier rule, if there is one
 abbrev pub refusal_record : List ℕ → List File → List ℕ → List ℕ → ℕ → Option Place → Option Place → Members
 refusal_record words files base name number place earlier =
     with_earlier files base earlier (with_refusal words files base name number place (record_of (codes "refused")))
 
--- what is told of a file that is refused, in these words, and of the rule before, if there is one: lines, or its record
+-- the report on a file that is refused, in these words, and on the earlier rule, if there is one: lines, or its record
 abbrev pub refusal_lines : Form → List ℕ → List File → List ℕ → List ℕ → ℕ → Option Place → Option Place → List ℕ
 refusal_lines Lines words files base name number place earlier =
     placed_refusal words files base (path_below base name) number place ++ included_lines files base name place ++ earlier_lines files base earlier
@@ -71,31 +71,31 @@ refusal_lines Records words files base name number place earlier = record_line (
 abbrev pub unread_text : List ℕ → List ℕ → List ℕ → ℕ → List ℕ → List ℕ
 unread_text base name unread number words = fault_lines words (path_below base unread) number None [] ++ included_line base name unread
 
--- a record of it
+-- a record of a file that is refused since another one, or itself, wasn't read
 abbrev pub unread_record : List ℕ → List ℕ → List ℕ → ℕ → List ℕ → Members
 unread_record base name unread number words =
     with_included base name unread (with_fault words (path_below base unread) number None [] (record_of (codes "refused")))
 
--- one of them
+-- the lines or the record of a file that is refused since another one, or itself, wasn't read
 abbrev pub unread_lines : Form → List ℕ → List ℕ → List ℕ → ℕ → List ℕ → List ℕ
 unread_lines Lines base name unread number words = unread_text base name unread number words
 unread_lines Records base name unread number words = record_line (unread_record base name unread number words)
 
--- what is told of a file that is refused, in these words, and of the rule before, if there is one; but where the fault stands in a file that wasn't
--- read, in the words of that
+-- the report on a file that is refused, in these words, and on the earlier rule, if there is one; but where the fault is in a file that wasn't read,
+-- in the words for that
 abbrev pub told_refusal : Form → List ℕ → List File → List ℕ → List ℕ → ℕ → Option Place → Option Place → Option (ℕ × UnreadFault) → List ℕ
 told_refusal form words files base name number place earlier None = refusal_lines form words files base name number place earlier
 told_refusal form words files base name number place earlier (Some unread) =
     unread_lines form base name (name_at files unread.0) number (words_of unread.1)
 
--- lines tell how the reading of a file by a language came out, and the rule before the refused one, if there is one
+-- lines report the outcome of the reading of a file by a language, and the earlier rule, if there is one
 abbrev pub TellsReading : Form → Language → List File → List (Option UnreadFault) → List ℕ → List ℕ → Option Place → Result (List Profile) ProfileError → List ℕ → Type 0
 TellsReading form language files unread base name earlier (Ok profiles) lines = lines ≡ taken_line form (path_below base name) profiles
 TellsReading form language files unread base name earlier (Err error) lines =
     lines ≡ told_refusal form (words_at language files error.refusal error.place) files base name (number_of error.refusal) error.place earlier
     (unread_in unread error.place)
 
--- lines tell a file: that it was taken, or why it is refused, exactly as its reading by a language says, with the rule before the refused one, where two
+-- lines report a file: that it was taken, or why it is refused, exactly as its reading by a language says, with the earlier rule, where two
 -- conflict; and how it is loaded, by the files at the top
 abbrev pub Tells : Form → Language → List File → List (Option UnreadFault) → List ℕ → List TopFile → List ℕ → List ℕ → Type 0
 Tells form language files unread base top name lines =
@@ -111,7 +111,7 @@ abbrev pub refused_count : Language → List File → List (List ℕ) → ℕ
 refused_count language files [] = 0
 refused_count language files (name ∷ names) = refused_in language files name + refused_count language files names
 
--- lines tell each of these files in turn
+-- lines report each of these files in turn
 abbrev pub TellsEach : Form → Language → List File → List (Option UnreadFault) → List ℕ → List TopFile → List (List ℕ) → List ℕ → Type 0
 TellsEach form language files unread base top [] lines = lines ≡ []
 TellsEach form language files unread base top (name ∷ names) lines =

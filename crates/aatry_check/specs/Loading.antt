@@ -1,4 +1,4 @@
--- What is told of how a file is loaded.
+-- The report on how a file is loaded.
 use Rattle.std.specs.Prelude.{ℕ, List, [], ◌∷◌, ◌++◌, codes, if◌then◌else◌}
 use Rattle.std.specs.Str.{bytes_eq}
 use Rattle.serde_json.specs.Data.{Members}
@@ -17,33 +17,33 @@ abbrev pub loading_in : List TopFile → List ℕ → Loading
 loading_in [] name = ByFlags
 loading_in (file ∷ top) name = if bytes_eq file.name name then file.loading else loading_in top name
 
--- the word of the state in which a file's profiles are loaded; of those that are loaded by their flags there is none
+-- the word of the state in which a file's profiles are loaded; empty where they are loaded by their flags
 abbrev pub state_word : Loading → List ℕ
 state_word ByFlags = []
 state_word ForceComplain = codes "complain"
 state_word Disable = codes "disabled"
 
--- the folder in which that stands by which they are in it
+-- the folder whose entry is the cause of that state
 abbrev pub cause_of : Loading → List ℕ
 cause_of ByFlags = []
 cause_of ForceComplain = codes "force-complain/"
 cause_of Disable = codes "disable/"
 
--- the line of how a file is loaded, by its path and by what it is so
+-- the line on how a file is loaded, by its path and the cause
 abbrev pub loading_text : List ℕ → Loading → List ℕ → List ℕ
 loading_text path loading cause = shown path ++ codes ": " ++ state_word loading ++ codes ", by " ++ shown cause ++ line_feed ∷ []
 
--- a record of it
+-- the record of how a file is loaded
 abbrev pub loading_record : List ℕ → Loading → List ℕ → Members
 loading_record path loading cause =
     with_text (codes "by") cause (with_text (codes "state") (state_word loading) (with_text (codes "file") path (record_of (codes "loading"))))
 
--- one of them
+-- the line or the record of how a file is loaded
 abbrev pub loading_told : Form → List ℕ → Loading → List ℕ → List ℕ
 loading_told Lines path loading cause = loading_text path loading cause
 loading_told Records path loading cause = record_line (loading_record path loading cause)
 
--- what is told of how a file is loaded: nothing where it is by its flags
+-- the report on how a file is loaded: nothing where it is by its flags
 abbrev pub told_loading : Form → List ℕ → List ℕ → Loading → List ℕ
 told_loading form base name ByFlags = []
 told_loading form base name loading = loading_told form (path_below base name) loading (cause_of loading ++ name)

@@ -1,4 +1,4 @@
--- What is told below a refusal of the rule before, with which the refused one conflicts.
+-- The report below a refusal on the earlier rule, with which the refused one conflicts.
 use Rattle.std.specs.Prelude.{ℕ, List, [], ◌∷◌, ◌++◌, codes}
 use Rattle.serde_json.specs.Data.{Members}
 use Rattle.aa_bytes.specs.Bytes.{line_feed}
@@ -10,7 +10,7 @@ use Rattle.aatry_report.specs.FilePlaces.{path_below}
 use Rattle.aatry_report.specs.Lines.{line_at, line_number}
 use Rattle.aatry_report.specs.Records.{with_number, with_text}
 
--- the words that stand behind the place of that rule, and the line's end
+-- the words that follow the place of that rule, and the line's end
 abbrev pub other_words : List ℕ
 other_words = codes "the rule before it" ++ line_feed ∷ []
 
@@ -24,7 +24,7 @@ with_other_text path text at members =
     with_text (codes "other_text") (line_at text at)
     (with_number (codes "other_column") (column text at) (with_number (codes "other_line") (line_number text at) (with_text (codes "other_file") path members)))
 
--- the same of a place in one of the files below a folder
+-- the place of that rule in one of the files below a folder, with its line
 abbrev pub other_lines : List File → List ℕ → Place → List ℕ
 other_lines files base place = other_text (path_below base (name_at files place.file)) (bytes_at files place.file) place.at
 

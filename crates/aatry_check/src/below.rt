@@ -1,4 +1,4 @@
-//! The check of a folder of policy on a disk.
+//! The check of a folder of policy on disk.
 
 ghost use Rattle.std.specs.Prelude.{◌≡◌, [], IfErr, IfOk, map, string_bytes};
 ghost use Rattle.aa_start.specs.Gathering.{texts_of};
@@ -28,7 +28,7 @@ fn names_of(alloc: Global, top: &[TopFile]) -> Result<Vec<String>, AllocError>
     Ok(names)
 }
 
-// The files that are meant: those that are given, and all that are tried where none is.
+// The files that are meant: the given ones, or all that are tried where none is given.
 fn meant(alloc: Global, top: &[TopFile], given: Vec<String>) -> Result<Vec<String>, AllocError>
     ensures { IfOk result (λ names. texts_of names ≡ meant (map seen_top top.now) (texts_of given)) }
 {
@@ -39,7 +39,7 @@ fn meant(alloc: Global, top: &[TopFile], given: Vec<String>) -> Result<Vec<Strin
     }
 }
 
-// Checks files, and keeps what is told of them.
+// Checks files, and keeps the report on them.
 fn report_on(
     teller: Teller,
     language: Language,
@@ -62,8 +62,8 @@ fn report_on(
     })
 }
 
-/// Checks the files that are asked of a folder of policy; or, where none is named, all at its top, and behind these all others that can't be read: reads the
-/// folder as `aatry_folder::policy_below` does, and tells of each file that is meant as `aatry_check::check` does, by a language.
+/// Checks the given files of a folder of policy; or, where none is given, all at its top, followed by all other files that can't be read. The folder
+/// is read as by `aatry_folder::policy_below`, and each file that is meant is reported as by `aatry_check::check`, by a language.
 ///
 /// # Errors
 ///

@@ -19,7 +19,7 @@ use aatry_folder::TopFile;
 use aatry_report::{Teller, path_below, push_taken};
 use std::alloc::{AllocError, Global};
 
-/// How files came out that were checked.
+/// The counts of files that were checked.
 #[derive(Clone, Copy)]
 pub struct Checked {
     /// How many were taken.
@@ -28,7 +28,7 @@ pub struct Checked {
     pub refused: usize,
 }
 
-// Puts what is told of a file that was taken behind a text.
+// Appends the report on a file that was taken to a text.
 fn push_profiles(
     teller: Teller,
     base: &[u8],
@@ -42,7 +42,7 @@ fn push_profiles(
     push_taken(teller, &path, profiles, out)
 }
 
-// Checks a file, puts what is told of its reading behind a text, and says how many are refused: one or none.
+// Checks a file, appends the report on its reading to a text, and returns how many are refused: one or none.
 fn check_reading(
     teller: Teller,
     language: Language,
@@ -79,7 +79,7 @@ fn check_reading(
     }
 }
 
-// Checks a file, puts what is told of it behind a text, with how it is loaded, and says how many are refused: one or none.
+// Checks a file, appends the report on it to a text, with how it is loaded, and returns how many are refused: one or none.
 fn check_file(
     teller: Teller,
     language: Language,
@@ -100,22 +100,22 @@ fn check_file(
     Ok(refused)
 }
 
-/// Checks files of policy by a language, each by itself, with the files that they include, and puts what is told of each behind a text, in their
-/// order: that it was taken, or why it is refused and where, with the rule before where two conflict; and behind that, that its profiles are disabled
-/// or loaded in complain mode, where they are by the files at the top of the folder, which `top` has. `base` is the folder that `files` were taken
-/// from, without a `/` at its end; each file is told by its path below that. A name that no file has is told as such. `unread` says of each of
-/// `files`, in their order, why it wasn't read, if it wasn't: a file that is refused where such a one is entered is told with that, and with no
-/// place.
+/// Checks files of policy by a language, each by itself, with the files that they include, and appends the report on each to a text, in their order:
+/// that it was taken, or why it is refused and where, with the earlier rule where two conflict; followed by whether its profiles are disabled or
+/// loaded in complain mode, where they are by the files at the top of the folder, which `top` has. `base` is the folder that `files` were taken
+/// from, without a `/` at its end; each file is named by its path below that. A name that no file has is reported as such. `unread` says of each of
+/// `files`, in their order, why it wasn't read, if it wasn't: a file that is refused where such a one is entered is reported with that, and without
+/// a place.
 ///
-/// The record of a file that was taken is that of `aatry_report::push_taken`. That of one that is refused is of the kind `refused`, with the file
-/// that the fault stands in and the fault as `aatry_report::put_fault_at` puts it, or `put_fault` where it has no place; and with `included_from`,
-/// the file that is checked, where the fault stands in another. Where two rules conflict it has the one before, as `other_file`, `other_line`,
-/// `other_column` and `other_text`, the line that it stands in. That of a file that isn't loaded by its flags is of the kind `loading`, with the
-/// file, its `state`, which is `disabled` or `complain`, and what makes it so, `by`.
+/// The record of a file that was taken is that of `aatry_report::push_taken`. That of a refused one is of the kind `refused`, with the file of the
+/// fault and the fault as `aatry_report::put_fault_at` puts it, or `put_fault` where it has no place; and with `included_from`, the file that is
+/// checked, where the fault is in another. Where two rules conflict it has the earlier one, as `other_file`, `other_line`, `other_column` and
+/// `other_text`, its line. That of a file that isn't loaded by its flags is of the kind `loading`, with the file, its `state`, which is `disabled`
+/// or `complain`, and the cause of that, `by`.
 ///
 /// # Errors
 ///
-/// Where memory runs out. What is told of some files may have been put then.
+/// Where memory runs out. The report on some files may have been appended then.
 pub fn check(
     teller: Teller,
     language: Language,

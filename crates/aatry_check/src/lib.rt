@@ -1,4 +1,4 @@
-//! Checks files of policy, each by itself, and tells what is found.
+//! Checks files of policy, each by itself, and reports the results.
 #![tactic(auto)]
 
 mod below;

@@ -1,4 +1,4 @@
-//! What is told of how a file is loaded.
+//! The report on how a file is loaded.
 
 ghost use Rattle.std.specs.Prelude.{◌≡◌, ◌++◌, IfOk, OnOk, map};
 ghost use Rattle.aatry_check.specs.Loading.{cause_of, loading_in, loading_record, loading_text, state_word, told_loading};
@@ -10,7 +10,8 @@ use aatry_folder::{Loading, TopFile};
 use aatry_report::{Form, Record, Teller, path_below, push_shown};
 use std::alloc::{AllocError, Global};
 
-/// How a file is loaded, by its name: as the first of some says that has the name, and by its flags where none has it. It takes no memory.
+/// How a file of a name is loaded: like the first file of that name at the top, and by its flags where none has the name. `O(n)` in the number of
+/// these files. It takes no memory.
 pub fn loading_in(top: &[TopFile], name: &[u8]) -> Loading
     ensures { result ≡ loading_in (map seen_top top.now) name.now }
 {
@@ -24,7 +25,7 @@ pub fn loading_in(top: &[TopFile], name: &[u8]) -> Loading
     Loading::ByFlags
 }
 
-// The word of the state in which a file's profiles are loaded; of those that are loaded by their flags there is none.
+// The word of the state in which a file's profiles are loaded; empty where they are loaded by their flags.
 fn state_word(loading: Loading) -> &'static str
     ensures { result.now ≡ state_word loading }
 {
@@ -35,7 +36,7 @@ fn state_word(loading: Loading) -> &'static str
     }
 }
 
-// The folder in which that stands by which they are in it.
+// The folder whose entry is the cause of that state.
 fn cause_of(loading: Loading) -> &'static str
     ensures { result.now ≡ cause_of loading }
 {
@@ -46,7 +47,7 @@ fn cause_of(loading: Loading) -> &'static str
     }
 }
 
-// What it stands by there.
+// The path of that entry below the folder of policy.
 fn cause_name(alloc: Global, loading: Loading, name: &[u8]) -> Result<Vec<u8>, AllocError>
     ensures { IfOk result (λ cause. cause.items ≡ cause_of loading ++ name.now) }
 {
@@ -56,7 +57,7 @@ fn cause_name(alloc: Global, loading: Loading, name: &[u8]) -> Result<Vec<u8>, A
     Ok(cause)
 }
 
-// Puts the line of how a file is loaded behind a text, by its path and by what it is so.
+// Appends the line on how a file is loaded to a text, by its path and the cause.
 fn push_line(
     out: &mut Vec<u8>,
     path: &[u8],
@@ -90,11 +91,11 @@ fn loading_record(
     Ok(made)
 }
 
-/// Puts how a file is loaded behind a text, with what makes it so, where it isn't by its flags.
+/// Appends how a file is loaded to a text, with the cause, where it isn't by its flags.
 ///
 /// # Errors
 ///
-/// Where memory runs out. A beginning may have been put then.
+/// Where memory runs out. A beginning may have been appended then.
 pub fn push_loading(
     teller: Teller,
     base: &[u8],

@@ -1,4 +1,4 @@
-//! What is told below a refusal of the rule before, with which the refused one conflicts.
+//! The report below a refusal on the earlier rule, with which the refused one conflicts.
 
 ghost use Rattle.std.specs.Prelude.{◌≡◌, ◌++◌, OnOk};
 ghost use Rattle.aatry_check.specs.Others.{other_lines, other_text, other_words, with_other, with_other_text};
@@ -11,7 +11,7 @@ use aatry_report::{
 };
 use std::alloc::{AllocError, Global};
 
-// Puts the line of a place behind a text, and a line with a caret below the place.
+// Appends the line of a place to a text, and a line with a caret below the place.
 fn push_marked_line(out: &mut Vec<u8>, text: &[u8], at: usize) -> Result<(), AllocError>
     ensures { OnOk result (out.new.items ≡ out.old.items ++ marked_line text.now at) }
 {
@@ -22,7 +22,7 @@ fn push_marked_line(out: &mut Vec<u8>, text: &[u8], at: usize) -> Result<(), All
     Ok(())
 }
 
-// Puts the words behind a text that stand behind the place of the rule, and the line's end.
+// Appends the words that follow the place of the rule to a text, and the line's end.
 fn push_other_words(out: &mut Vec<u8>) -> Result<(), AllocError>
     ensures { OnOk result (out.new.items ≡ out.old.items ++ other_words) }
 {
@@ -30,7 +30,7 @@ fn push_other_words(out: &mut Vec<u8>) -> Result<(), AllocError>
     Ok(())
 }
 
-// Puts the place of the rule in a file behind a text, its line, and a line with a caret below the place.
+// Appends the place of the rule in a file to a text, its line, and a line with a caret below the place.
 fn push_other_text(out: &mut Vec<u8>, path: &[u8], text: &[u8], at: usize) -> Result<(), AllocError>
     ensures { OnOk result (out.new.items ≡ out.old.items ++ other_text path.now text.now at) }
 {
@@ -39,7 +39,11 @@ fn push_other_text(out: &mut Vec<u8>, path: &[u8], text: &[u8], at: usize) -> Re
     push_marked_line(out, text, at)
 }
 
-/// Puts the place of the rule in one of the files below a folder behind a text, its line, and a line with a caret below the place.
+/// Appends the place of the rule in one of the files below a folder to a text, its line, and a line with a caret below the place.
+///
+/// # Errors
+///
+/// Where memory runs out. A beginning may have been appended then.
 pub fn push_other(
     alloc: Global,
     files: &Files,
@@ -71,6 +75,10 @@ fn put_other_text(
 }
 
 /// Puts the place of the rule in one of the files below a folder into a record, and its line.
+///
+/// # Errors
+///
+/// Where memory runs out.
 pub fn put_other(
     alloc: Global,
     files: &Files,

@@ -15,7 +15,11 @@ use aa_text_files::{Files, Place};
 use aatry_report::{Record, path_below, put_fault, put_fault_at};
 use std::alloc::{AllocError, Global};
 
-/// Puts which file includes the one that a fault stands in into a record, where it isn't that file itself.
+/// Puts which file includes the file of a fault into a record, where it isn't that file itself.
+///
+/// # Errors
+///
+/// Where memory runs out.
 pub fn put_included(
     alloc: Global,
     base: &[u8],
@@ -83,7 +87,7 @@ fn put_refusal(
     }
 }
 
-// Puts the rule before into a record, if there is one.
+// Puts the earlier rule into a record, if there is one.
 fn put_earlier(
     alloc: Global,
     files: &Files,
@@ -100,6 +104,10 @@ fn put_earlier(
 }
 
 /// The record of a file that is refused, in these words.
+///
+/// # Errors
+///
+/// Where memory runs out.
 pub fn refusal_record(
     alloc: Global,
     files: &Files,

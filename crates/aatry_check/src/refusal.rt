@@ -1,4 +1,4 @@
-//! What is told of a file that is refused.
+//! The report on a file that is refused.
 
 ghost use Rattle.std.specs.Prelude.{◌≡◌, ◌++◌, OnOk};
 ghost use Rattle.aa_profile_parsing.specs.ProfileError.{number_of};
@@ -14,18 +14,22 @@ use aatry_refusal_words::words_of;
 use aatry_report::{Form, Teller, path_below, push_placed_refusal, push_shown};
 use std::alloc::{AllocError, Global};
 
-/// Why a file is refused, and the rule before the refused one.
+/// Why a file is refused, and the earlier rule of a conflict.
 #[derive(Clone, Copy)]
 pub struct Refused {
     /// The language that it was read by.
     pub language: Language,
     /// The refusal.
     pub error: ProfileError,
-    /// Where two rules conflict, the place of the one before.
+    /// Where two rules conflict, the place of the earlier one.
     pub earlier: Option<Place>,
 }
 
-/// Puts which file includes the one that a fault stands in behind a text, where it isn't that file itself.
+/// Appends which file includes the file of a fault to a text, where it isn't that file itself.
+///
+/// # Errors
+///
+/// Where memory runs out. A beginning may have been appended then.
 pub fn push_included(
     alloc: Global,
     base: &[u8],
@@ -45,7 +49,7 @@ pub fn push_included(
     Ok(())
 }
 
-// Puts the same behind a text of a place in a file, if there is one.
+// Appends which file includes the file of a place to a text, if there is a place and it isn't that file itself.
 fn push_included_at(
     alloc: Global,
     files: &Files,
@@ -62,7 +66,7 @@ fn push_included_at(
     }
 }
 
-// Puts what is told of the rule before behind a text, if there is one.
+// Appends the report on the earlier rule to a text, if there is one.
 fn push_earlier(
     alloc: Global,
     files: &Files,
@@ -78,7 +82,7 @@ fn push_earlier(
     }
 }
 
-// Puts the lines of a file that is refused behind a text, in these words.
+// Appends the lines on a file that is refused to a text, in these words.
 fn push_lines(
     alloc: Global,
     files: &Files,
@@ -107,7 +111,7 @@ fn push_lines(
     push_earlier(alloc, files, base, earlier, out)
 }
 
-// Puts what is told of a file that is refused behind a text, in these words.
+// Appends the report on a file that is refused to a text, in these words.
 fn push_in_words(
     teller: Teller,
     files: &Files,
@@ -129,7 +133,11 @@ fn push_in_words(
     }
 }
 
-/// Puts what is told of a file that is refused behind a text.
+/// Appends the report on a file that is refused to a text.
+///
+/// # Errors
+///
+/// Where memory runs out. A beginning may have been appended then.
 pub fn push_refusal(
     teller: Teller,
     files: &Files,

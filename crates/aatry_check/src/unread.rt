@@ -1,4 +1,4 @@
-//! What is told of a file that is refused since it wasn't read, or one that it includes.
+//! The report on a file that is refused since it, or one that it includes, wasn't read.
 
 ghost use Rattle.std.specs.Prelude.{◌≡◌, ◌++◌, IfOk, OnOk};
 ghost use Rattle.aa_profile_parsing.specs.ProfileError.{number_of};
@@ -14,7 +14,7 @@ use aa_text_files::Files;
 use aatry_report::{Form, Record, Teller, path_below, push_fault, put_fault};
 use std::alloc::{AllocError, Global};
 
-// Puts the lines of a file behind a text that is refused since this one wasn't read, in these words.
+// Appends the lines on a file that is refused since this one wasn't read to a text, in these words.
 fn push_lines(
     alloc: Global,
     base: &[u8],
@@ -31,7 +31,7 @@ fn push_lines(
     push_included(alloc, base, name, unread, out)
 }
 
-// The record of such a file.
+// The record of a file that is refused since this one wasn't read.
 fn unread_record(
     alloc: Global,
     base: &[u8],
@@ -49,7 +49,7 @@ fn unread_record(
     Ok(made)
 }
 
-// Puts what is told of it behind a text.
+// Appends the report on a file that is refused since this one wasn't read to a text.
 fn push_unread(
     teller: Teller,
     base: &[u8],
@@ -70,7 +70,11 @@ fn push_unread(
     }
 }
 
-/// Puts what is told of a file that is refused behind a text: where its fault stands in a file that wasn't read, why that wasn't, and with no place.
+/// Appends the report on a file that is refused to a text: where its fault is in a file that wasn't read, why that wasn't, without a place.
+///
+/// # Errors
+///
+/// Where memory runs out. A beginning may have been appended then.
 pub fn push_told(
     teller: Teller,
     files: &Files,

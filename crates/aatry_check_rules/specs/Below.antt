@@ -1,4 +1,4 @@
--- What a check of the rules of a folder of policy comes to.
+-- The outcome of a check of the rules of a folder of policy.
 use Rattle.std.specs.Prelude.{◌≡◌, ℕ, Bool, not, ◌||◌, List, ◌++◌, Option}
 use Rattle.std.specs.List.{list_any}
 use Rattle.aa_profile_parsing.specs.declared.language.Language.{Language}
@@ -29,17 +29,17 @@ use Rattle.aatry_check_rules.specs.declared.below.RulesHow.{RulesHow}
 abbrev pub which_of : RulesHow → FolderParts → Which
 which_of how folder = record { included = how.included; files = folder.below.files }
 
--- what is told of all that is found, of the files that are named and aren't there, and what sums up
+-- the report on all findings, on the named files that don't exist, and the summary
 abbrev pub checked_text : Form → FolderParts → List (List ℕ) → List Found → List ℕ
 checked_text form folder names found =
     all_text form folder.below found ++ absents_text form folder.parts names ++ summary_text form folder.parts names found
 
--- some written rule decides nothing, or a file that is named isn't there
+-- some written rule decides nothing, or a named file doesn't exist
 abbrev pub has_fault : FolderParts → List (List ℕ) → List Found → Bool
 has_fault folder names found = some_told found || list_any (is_absent folder.parts) names
 
--- What is found of the parts of the files that are named, or of all, is right, and is told behind a text; and it is
--- known whether some rule decides nothing or a file isn't there, and whether paths are too many of some part.
+-- The findings for the parts of the named files, or of all, are right, and are appended to a text; and it is known whether some rule decides nothing
+-- or a file doesn't exist, and whether some part has too many paths.
 pub record AreRulesTold (form : Form) (how : RulesHow) (folder : FolderParts) (names : List (List ℕ)) (before after : List ℕ) (faulty undecided : Bool) : Type 0 where
   pub found : List Found
   pub right : AreFound (which_of how folder) how.limit (parts_asked names folder.parts) found
@@ -47,9 +47,8 @@ pub record AreRulesTold (form : Form) (how : RulesHow) (folder : FolderParts) (n
   pub faults : faulty ≡ has_fault folder names found
   pub unknown : undecided ≡ some_many found
 
--- The rules of a folder were checked: the text tells the files that are left out, at length or not, and what is found,
--- and it is noted how many are left out. One failed where some rule decides nothing, or a file that is named isn't
--- there.
+-- The rules of a folder were checked: the text has the files that are left out, verbose or not, and the findings, and it is noted how many are left
+-- out. One failed where some rule decides nothing, or a named file doesn't exist.
 pub record AreRulesIn (form : Form) (verbose : Bool) (how : RulesHow) (names : List (List ℕ)) (folder : Folder) (told : PathsReport) : Type 0 where
   pub faulty : Bool
   pub found : AreRulesTold form how (by_parts folder) names (left_out_in form verbose folder) told.report.text faulty told.undecided
@@ -63,7 +62,7 @@ seen_loaded loaded = record {
   parts = set_parts loaded.policy.manager.machine.now loaded.policy.origins.items;
 }
 
--- This is a folder on a disk, with all that lies below it, by a language.
+-- This is a folder on disk, with all that lies below it, by a language.
 pub record AreRulesChecked (form : Form) (verbose : Bool) (language : Language) (folders : ToldFolders) (known : Known) (check : CheckAsked) (how : RulesHow) (told : PathsReport) : Type 0 where
   pub files : List File
   pub unread : List (Option UnreadFault)

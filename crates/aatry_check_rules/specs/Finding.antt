@@ -13,26 +13,25 @@ use Rattle.aatry_check_rules.specs.Written.{Which, tried_of, written_of}
 use Rattle.aatry_check_rules.specs.declared.finding.Found.{Found as CodeFound}
 use Rattle.aatry_check_rules.specs.declared.finding.RedundantRule.{RedundantRule}
 
--- the numbers of written rules that are told
+-- the numbers of written rules that are reported
 abbrev pub told_numbers : List RedundantRule → List ℕ
 told_numbers told = map (λ (one : RedundantRule). one.number) told
 
--- the example that is told of one is right, where all these are gone
+-- the reported example of a rule is right, where all these are gone
 abbrev pub HasExample : WrittenRules → List ℕ → ℕ → RedundantRule → Type 0
 HasExample rules gone limit one = IsExampleWithin rules gone one.number limit one.example
 
--- Those that are told, in the order in which they stand, are those of the ones that are tried that decide nothing, and
--- the example of each is right.
+-- The reported rules, in the order in which they are written, are those of the tried ones that decide nothing, and the example of each is right.
 pub record AreRedundant (rules : WrittenRules) (tried : List ℕ) (limit : ℕ) (told : List RedundantRule) : Type 0 where
   pub right : AreToldOf rules tried (reverse (told_numbers told))
   pub examples : All (HasExample rules (told_numbers told) limit) told
 
--- They are; or nothing is told, and more texts than the limit are read differently by the patterns.
+-- The reported rules are right; or there are none, and the patterns read more texts than the limit differently.
 abbrev pub AreRedundantWithin : WrittenRules → List ℕ → ℕ → Option (List RedundantRule) → Type 0
 AreRedundantWithin rules tried limit None = AreMoreTextsThan (trying_patterns rules tried) limit
 AreRedundantWithin rules tried limit (Some told) = AreRedundant rules tried limit told
 
--- a part, how many of its written rules are tried, and those that decide nothing, where paths aren't too many
+-- a part, how many of its written rules are tried, and those that decide nothing, where there aren't too many paths
 pub record Found : Type 0 where
   pub part : Part
   pub tried : ℕ
@@ -41,12 +40,12 @@ pub record Found : Type 0 where
 abbrev pub seen_found : CodeFound → Found
 seen_found found = record { part = seen_part found.part.now; tried = found.tried; told = option_map (λ told. told.items) found.told }
 
--- what is found of a part is right
+-- the finding for a part is right
 pub record IsFound (which : Which) (limit : ℕ) (found : Found) : Type 0 where
   pub counted : found.tried ≡ length (tried_of which found.part)
   pub told : AreRedundantWithin (written_of found.part) (tried_of which found.part) limit found.told
 
--- what is found is of these parts, in their order, and right
+-- the findings are for these parts, in their order, and right
 pub record AreFound (which : Which) (limit : ℕ) (parts : List Part) (found : List Found) : Type 0 where
   pub each : All (IsFound which limit) found
   pub of : map (λ (one : Found). one.part) found ≡ parts
@@ -66,7 +65,7 @@ parts_asked names parts = filter (is_asked names) parts
 abbrev pub is_absent : List Part → List ℕ → Bool
 is_absent parts name = not (list_any (λ (part : Part). is_of_file part.file name) parts)
 
--- some written rule decides nothing; and some part's paths are too many
+-- some written rule decides nothing; and some part has too many paths
 abbrev pub has_told : Found → Bool
 has_told found = elim found.told [ None ↦ false | Some told ↦ not (length told == 0) ]
 

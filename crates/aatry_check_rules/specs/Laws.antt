@@ -4,7 +4,7 @@ use Rattle.aa_text_files.specs.declared.text_error.Place.{Place}
 use Rattle.aatry_shared.specs.PartFeatures.{place_at}
 use Rattle.aatry_check_rules.specs.Written.{numbers_of}
 
--- two rules of these numbers are one, or stand at one place
+-- two rules of these numbers are one, or are written at one place
 abbrev pub AreOfOneRule : List (Option Place) → ℕ → ℕ → Type 0
 AreOfOneRule places one other =
     (one ≡ other) ⊎ ((place : Place) × (place_at places one ≡ Some place) × (place_at places other ≡ Some place))

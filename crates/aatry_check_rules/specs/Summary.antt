@@ -1,4 +1,4 @@
--- What sums up (docs/aatry.md, "`aatry check --rules`").
+-- The summary (docs/aatry.md, "`aatry check --rules`").
 use Rattle.std.specs.Prelude.{ℕ, ◌==◌, if◌then◌else◌, List, [], ◌∷◌, ◌++◌, codes, count_by, length, None, Some}
 use Rattle.std.specs.List.{sum_by}
 use Rattle.std.specs.Fmt.{decimal}
@@ -12,14 +12,14 @@ use Rattle.aatry_check_rules.specs.Finding.{Found, is_absent, is_many}
 use Rattle.aatry_check_rules.specs.Telling.{decide_word, rules_word}
 use Rattle.aatry_check_rules.specs.declared.summary.Counts.{Counts}
 
--- how many rules of a part are told, and how many were tried; of one whose paths are too many none
+-- how many rules of a part are reported, and how many were tried; none where it has too many paths
 abbrev pub told_in : Found → ℕ
 told_in found = elim found.told [ None ↦ 0 | Some told ↦ length told ]
 
 abbrev pub tried_in : Found → ℕ
 tried_in found = elim found.told [ None ↦ 0 | Some told ↦ found.tried ]
 
--- what is counted of what is found of parts, where files of these names are asked about
+-- the counts of the findings for parts, where files of these names are asked about
 abbrev pub counts_of : List Part → List (List ℕ) → List Found → Counts
 counts_of parts names found = record {
   all = length found;
@@ -38,18 +38,18 @@ unfoldable pub told_words : ℕ → ℕ → ℕ → List ℕ
 told_words all told tried =
     decimal all ++ codes " profiles, children and hats: " ++ decimal told ++ rules_word told ++ codes " of " ++ decimal tried ++ decide_word told
 
--- all of these as a line
+-- the summary as a line
 unfoldable pub summary_line : Counts → List ℕ
 summary_line counts =
     told_words counts.all counts.told counts.tried ++ share counts.many (codes " too many") ++ share counts.absent (codes " absent") ++ line_feed ∷ []
 
--- the same as a record
+-- the summary as a record
 unfoldable pub summary_record : Counts → Members
 summary_record counts =
     with_number (codes "absent") counts.absent (with_number (codes "too_many") counts.many (with_number (codes "tried") counts.tried
     (with_number (codes "redundant") counts.told (with_number (codes "all") counts.all (record_of (codes "summary"))))))
 
--- what sums up
+-- the summary in a form
 abbrev pub summary_by : Form → Counts → List ℕ
 summary_by Lines counts = summary_line counts
 summary_by Records counts = record_line (summary_record counts)

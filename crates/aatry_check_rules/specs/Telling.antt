@@ -1,4 +1,4 @@
--- What is told of written rules that decide nothing (docs/aatry.md, "`aatry check --rules`").
+-- The report on written rules that decide nothing (docs/aatry.md, "`aatry check --rules`").
 use Rattle.std.specs.Prelude.{ℕ, Bool, false, ◌==◌, if◌then◌else◌, List, [], ◌∷◌, ◌++◌, codes, filter, flat_map, length, slice_get, Option, None, Some}
 use Rattle.std.specs.Fmt.{decimal}
 use Rattle.serde_json.specs.Data.{Members}
@@ -21,17 +21,16 @@ use Rattle.aatry_why_lines.specs.Lines.{where_text, with_where}
 use Rattle.aatry_check_rules.specs.Finding.{Found, is_absent}
 use Rattle.aatry_check_rules.specs.declared.finding.RedundantRule.{RedundantRule}
 
--- the rule of a number of a part, with where it stands, to the end of its line
+-- the rule of a number of a part, with where it is written, to the end of its line
 unfoldable pub placed_line : PolicyFiles → Part → ℕ → Rule → List ℕ
 placed_line below part number rule = where_text below part.file (place_at part.places number) ++ shown (rule_text rule) ++ line_feed ∷ []
 
--- the same as a record of a kind
+-- the record of a kind for the rule of a number of a part, with where it is written
 unfoldable pub placed_record : PolicyFiles → Part → List ℕ → ℕ → Rule → Members
 placed_record below part kind number rule =
     with_text (codes "text") (rule_text rule) (with_where below part.file (place_at part.places number) (headed_record kind part.name))
 
--- the number of the rule by which a written rule is told: the first of its rules on files, or the first that matches
--- the path that is told
+-- the number of the rule by which a written rule is reported: the first of its rules on files, or the first that matches the reported path
 abbrev pub number_by : ℕ → Option Example → ℕ
 number_by number None = number
 number_by number (Some MatchesNothing) = number
@@ -40,8 +39,7 @@ number_by number (Some (Overlaps overlap)) = overlap.rule
 abbrev pub shown_number : RedundantRule → ℕ
 shown_number one = number_by one.number one.example
 
--- the record of a written rule with why it decides nothing: by a path, by that it matches none, or that its own paths
--- are too many
+-- the record of a written rule with why it decides nothing: by a path, by that it matches none, or that it has too many paths of its own
 abbrev pub with_example : Option Example → Members → Members
 with_example None members = with_text (codes "why") (codes "too_many") members
 with_example (Some MatchesNothing) members = with_text (codes "why") (codes "no_path") members
@@ -78,7 +76,7 @@ abbrev pub beside_by : Form → PolicyFiles → Part → Bool → List ℕ → �
 beside_by Lines below part same path number rule = beside_words same path ++ placed_line below part number rule
 beside_by Records below part same path number rule = record_line (placed_record below part (beside_kind same) number rule)
 
--- the rule of a number that stays, where the path and a rule of the written one are told, if there is one
+-- the rule of a number that stays, where the path and a rule of the written one are given, if there is one
 abbrev pub beside_at : Form → PolicyFiles → Part → List ℕ → Option Rule → ℕ → Option Rule → List ℕ
 beside_at form below part path own number None = []
 beside_at form below part path own number (Some rule) = beside_by form below part (is_same_as rule own) path number rule
@@ -87,11 +85,11 @@ abbrev pub beside_text : Form → PolicyFiles → Part → Overlap → ℕ → L
 beside_text form below part overlap number =
     beside_at form below part overlap.path (slice_get part.section.rules overlap.rule) number (slice_get part.section.rules number)
 
--- all of them
+-- all rules that stay
 abbrev pub overlap_text : Form → PolicyFiles → Part → Overlap → List ℕ
 overlap_text form below part overlap = flat_map (beside_text form below part overlap) overlap.beside
 
--- a line that isn't of a rule; in records it stands in that of the written rule
+-- a line that isn't of a rule; in records it is part of that of the written rule
 abbrev pub plain_line : Form → List ℕ → List ℕ
 plain_line Lines words = words
 plain_line Records words = []
@@ -125,12 +123,12 @@ abbrev pub heading_text : Form → List ℕ → ℕ → List ℕ
 heading_text Lines name count = heading_line name count
 heading_text Records name count = []
 
--- what is told of a part: nothing, where each of its rules decides something
+-- the report on a part: nothing, where each of its rules decides something
 abbrev pub part_told : Form → PolicyFiles → Part → List RedundantRule → List ℕ
 part_told form below part told =
     if length told == 0 then [] else heading_text form part.name (length told) ++ rules_told form below part told
 
--- its paths are too many
+-- a part has too many paths
 abbrev pub many_word : Form → List ℕ
 many_word Lines = codes "too many"
 many_word Records = codes "too_many"
@@ -142,11 +140,11 @@ told_by form below part (Some told) = part_told form below part told
 abbrev pub found_text : Form → PolicyFiles → Found → List ℕ
 found_text form below found = told_by form below found.part found.told
 
--- what is told of all that is found
+-- the report on all findings
 abbrev pub all_text : Form → PolicyFiles → List Found → List ℕ
 all_text form below found = flat_map (found_text form below) found
 
--- no profile is loaded of a file that is named
+-- no profile of a named file is loaded
 unfoldable pub absent_line : List ℕ → List ℕ
 absent_line name = codes "absent: no profile is loaded of the file " ++ shown name ++ line_feed ∷ []
 

@@ -1,4 +1,4 @@
-//! The check of the rules of a folder of policy on a disk.
+//! The check of the rules of a folder of policy on disk.
 
 ghost use Rattle.std.specs.Prelude.{◌≡◌, ◌++◌, IfErr, IfOk, OnOk, map, string_bytes};
 ghost use Rattle.aatry_arguments.specs.Given.{meant_check};
@@ -24,22 +24,22 @@ use std::alloc::{AllocError, Global};
 /// Which written rules are tried, and how far.
 #[derive(Clone, Copy)]
 pub struct RulesHow {
-    /// Whether those of included files are tried, too.
+    /// Whether rules of included files are tried, too.
     pub included: bool,
     /// How many sets of states are looked at, at most, for each profile, child or hat.
     pub limit: usize,
 }
 
-/// What a check came to.
+/// The outcome of a check.
 #[derive(Clone, Copy)]
 pub struct Outcome {
-    /// Whether some written rule decides nothing, or a file that is named isn't there.
+    /// Whether some written rule decides nothing, or a named file doesn't exist.
     pub faulty: bool,
-    /// Whether the paths of some part are too many.
+    /// Whether some part has too many paths.
     pub undecided: bool,
 }
 
-// Appends what is told of all that is found to a text, and what sums up.
+// Appends the report on all that is found to a text, and the summary.
 fn push_found(
     teller: Teller,
     folder: &FolderParts<'_>,
@@ -55,7 +55,7 @@ fn push_found(
     push_summary(teller, folder.parts, names, found, out)
 }
 
-// Checks the rules of a folder by its parts, and appends what is told of that to a text.
+// Checks the rules of a folder by its parts, and appends the report to a text.
 fn tell_parts(
     teller: Teller,
     how: RulesHow,
@@ -81,7 +81,7 @@ fn tell_parts(
     })
 }
 
-// The same of a folder that is loaded.
+// Checks the rules of a loaded folder, and appends the report to a text.
 fn tell_loaded(
     teller: Teller,
     how: RulesHow,
@@ -109,7 +109,7 @@ fn slices_of(alloc: Global, words: &[String]) -> Result<Vec<&[u8]>, AllocError>
     Ok(slices)
 }
 
-// The same of a folder that was read.
+// Checks the rules of a folder that was read.
 fn check_read(
     teller: Teller,
     how: RulesHow,
@@ -129,21 +129,18 @@ fn check_read(
     })
 }
 
-/// Checks the rules of a folder of policy, by a language: tells the written rules on files that decide nothing, by the
-/// profiles, children and hats that have them. It reads the folder as `aatry_folder::policy_below` does. Told are the
-/// files that are left out, where they are told, with a note on how many they are; then the parts with such rules; and
-/// what sums up. Where files are named, the parts of these alone are looked at; a name of which no part is, since there
-/// is no such file at the top of the folder, or it is left out, or has no profile, is told as `absent`.
+/// Checks the rules of a folder of policy, by a language: reports the written rules on files that decide nothing, by the profiles, children and hats
+/// that have them. The folder is read as by `aatry_folder::policy_below`. The report has the files that are left out, where these are reported,
+/// with a note on how many they are; then the parts with such rules; and a summary. Where files are named, only the parts of these are looked at; a
+/// name of which no part is, since there is no such file at the top of the folder, or it is left out, or has no profile, is reported as `absent`.
 ///
-/// A written rule decides nothing where without it, and without those that are told beside it, the same is said of each
-/// path that the kernel may ask about (`aa_explain_redundant::redundant_rules`): so all that are told of a part can be
-/// taken away together. Tried are the rules that stand in the part's own file, or, as it is asked, those of included
-/// files, too; of two that are equal the later is told. Of each a shortest path is told that it matches, and the rules
-/// that stay and cover something there that it covers. Of parts in mode unconfined, or disabled, no rule is asked, and
-/// none is tried.
+/// A written rule decides nothing where without it, and without those that are reported beside it, all answers on each path that the kernel may ask
+/// about stay the same (`aa_explain_redundant::redundant_rules`): so all that are reported of a part can be taken away together. The rules of the
+/// part's own file are tried, and, if `how` says so, those of included files, too; of two equal ones the later is reported. Of each a shortest path
+/// is reported that it matches, and the rules that stay and cover something there that it covers. In parts in mode unconfined, or disabled, no rule
+/// decides, and none is tried.
 ///
-/// One failed where some rule decides nothing, or a file that is named isn't there; and it is undecided where paths are
-/// too many of some part.
+/// One failed where some rule decides nothing, or a named file doesn't exist; and it is undecided where some part has too many paths.
 ///
 /// # Errors
 ///

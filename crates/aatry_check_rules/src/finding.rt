@@ -19,7 +19,7 @@ use std::alloc::{AllocError, Global};
 pub struct RedundantRule {
     /// Its number: that of the first of its rules on files.
     pub number: usize,
-    /// An example of what it matches; none, where its own paths are too many.
+    /// An example of what it matches; `None`, where it has too many paths of its own.
     pub example: Option<Example>,
 }
 
@@ -30,20 +30,20 @@ pub struct Found<'a> {
     pub part: &'a Part<'a>,
     /// How many of its written rules were tried.
     pub tried: usize,
-    /// Those of them that decide nothing, in the order in which they stand; none, where paths are too many.
+    /// Those of them that decide nothing, in the order in which they are written; `None`, where there are too many paths.
     pub told: Option<Vec<RedundantRule>>,
 }
 
 /// Which written rules are tried, and how far.
 #[derive(Clone, Copy)]
 pub struct Question<'a> {
-    /// Which.
+    /// Which rules.
     pub which: Which<'a>,
     /// How many sets of states are looked at, at most.
     pub limit: usize,
 }
 
-// Appends a written rule, with an example of what it matches, where these are gone.
+// Appends a written rule to `told`, with an example of what it matches, where these are gone.
 fn push_example(
     alloc: Global,
     rules: WrittenRules<'_>,
@@ -80,7 +80,7 @@ fn with_examples(
     Ok(told)
 }
 
-// Those of some written rules that decide nothing, with examples, in the order in which they stand.
+// Those of some written rules that decide nothing, with examples, in the order in which they are written; `None` where there are too many paths.
 fn redundant_within(
     alloc: Global,
     rules: WrittenRules<'_>,
@@ -125,7 +125,7 @@ fn found_of<'a>(
     })
 }
 
-// Appends what is found of a part.
+// Appends what is found of a part to `out`.
 fn push_found<'a>(
     alloc: Global,
     question: Question<'_>,
@@ -141,7 +141,7 @@ fn push_found<'a>(
     Ok(())
 }
 
-// Whether a part is of the file of one of these names.
+// Whether a file has one of these names.
 fn is_named(file: &[u8], names: &[&[u8]]) -> bool
     ensures { result ≡ list_any (is_of_file file.now) (map (λ name. name.now) names.now) }
 {
@@ -155,14 +155,14 @@ fn is_named(file: &[u8], names: &[&[u8]]) -> bool
     false
 }
 
-// The same; where there is no name, each is meant.
+// Whether a part is asked about: its file has one of these names, or there is no name.
 fn is_asked(names: &[&[u8]], part: &Part<'_>) -> bool
     ensures { result ≡ is_asked (map (λ name. name.now) names.now) (seen_part part.now) }
 {
     names.is_empty() || is_named(part.file, names)
 }
 
-// Appends what is found of a part, if it is asked about.
+// Appends what is found of a part to `out`, if it is asked about.
 fn push_asked<'a>(
     alloc: Global,
     question: Question<'_>,
@@ -181,7 +181,7 @@ fn push_asked<'a>(
     Ok(())
 }
 
-/// What is found of the parts of the files of these names, in their order; or of all, where there is no name.
+/// What is found of the parts of the files of these names, in their order; or of all parts, where there is no name.
 ///
 /// # Errors
 ///
@@ -218,7 +218,7 @@ pub fn is_absent(parts: &[Part<'_>], name: &[u8]) -> bool
     true
 }
 
-/// Whether that is so of one of some names. It takes no memory.
+/// Whether for one of some names no part is of its file. It takes no memory.
 pub fn has_absent(parts: &[Part<'_>], names: &[&[u8]]) -> bool
     ensures { result ≡ list_any (is_absent (map seen_part parts.now)) (map (λ name. name.now) names.now) }
 {
@@ -256,14 +256,14 @@ pub fn some_told(found: &[Found<'_>]) -> bool
     false
 }
 
-/// Whether the paths of a part are too many. It takes no memory.
+/// Whether a part has too many paths. It takes no memory.
 pub fn is_many(found: &Found<'_>) -> bool
     ensures { result ≡ is_many (seen_found found.now) }
 {
     found.told.is_none()
 }
 
-/// Whether they are of some part. It takes no memory.
+/// Whether some part has too many paths. It takes no memory.
 pub fn some_many(found: &[Found<'_>]) -> bool
     ensures { result ≡ some_many (map seen_found found.now) }
 {

@@ -1,5 +1,5 @@
-//! The command `check --rules`: finds the written rules of profiles, children and hats of a folder of policy that decide nothing, each with an example of
-//! what it matches, and tells them, each with why.
+//! The command `check --rules`: finds the written rules of profiles, children and hats of a folder of policy that decide nothing, and reports each
+//! with the reason and an example of what it matches.
 #![tactic(auto)]
 
 mod below;

@@ -9,7 +9,7 @@ use aa_profile_data::Rule;
 use aa_text_files::Place;
 use std::alloc::{AllocError, Global};
 
-/// Where the rule of a number stands, if that is known. It takes no memory.
+/// Where the rule of a number is written, if that is known. It takes no memory.
 pub fn place_at(places: &[Option<Place>], number: usize) -> Option<Place>
     ensures { result ≡ place_at places.now number }
 {
@@ -29,7 +29,7 @@ pub fn is_file(rule: &Rule) -> bool
     }
 }
 
-// Where the rule of a number stands, if it is on files, and that is known.
+// Where the rule of a number is written, if it is on files, and that is known.
 fn file_place(places: &[Option<Place>], number: usize, rule: &Rule) -> Option<Place>
     ensures { result ≡ file_place places.now number rule.now }
 {
@@ -40,7 +40,7 @@ fn file_place(places: &[Option<Place>], number: usize, rule: &Rule) -> Option<Pl
     }
 }
 
-/// Where each of some rules on files stands, if that is known; of any other rule no place is told.
+/// Where each of some rules on files is written, if that is known; any other rule has no place here.
 ///
 /// # Errors
 ///
@@ -63,7 +63,7 @@ pub fn file_places(
     Ok(found)
 }
 
-// Whether a rule stands at a place.
+// Whether a rule is written at a place.
 fn stands_at(place: Place, own: Option<Place>) -> bool
     ensures { result ≡ stands_at place own }
 {
@@ -73,7 +73,7 @@ fn stands_at(place: Place, own: Option<Place>) -> bool
     }
 }
 
-// The number of the first rule that stands at a place; where none does, another number.
+// The number of the first rule that is written at a place; where none is, `other`.
 fn first_at(place: Place, other: usize, places: &[Option<Place>]) -> usize
     ensures { result ≡ first_at place other 0 places.now }
 {
@@ -89,8 +89,8 @@ fn first_at(place: Place, other: usize, places: &[Option<Place>]) -> usize
     other
 }
 
-/// The number of the written rule that a rule of a number was made of, which stands at a place: that of the first rule
-/// that stands there. One whose place isn't known is by itself. It takes no memory.
+/// The number of the written rule that a rule of a number was made of, which is written at a place: that of the first rule at that place. A rule
+/// whose place isn't known is by itself. `O(n)` in the number of places. It takes no memory.
 pub fn number_of(places: &[Option<Place>], number: usize, own: Option<Place>) -> usize
     ensures { result ≡ number_of places.now number own }
 {
@@ -100,7 +100,7 @@ pub fn number_of(places: &[Option<Place>], number: usize, own: Option<Place>) ->
     }
 }
 
-/// The numbers of the written rules that rules were made of, by where they stand.
+/// The numbers of the written rules that rules were made of, by where they are written.
 ///
 /// # Errors
 ///

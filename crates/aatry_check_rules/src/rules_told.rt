@@ -1,4 +1,4 @@
-//! What is told of written rules that decide nothing, and why.
+//! The report on written rules that decide nothing, and why.
 
 ghost use Rattle.std.specs.Prelude.{◌≡◌, ◌++◌, IfOk, OnOk, slice_get};
 ghost use Rattle.aa_explain_redundant.specs.Examples.{seen_overlap};
@@ -19,7 +19,7 @@ use aatry_report::{Form, Record, Teller, push_shown};
 use aatry_why_lines::{Finder, push_where, put_where};
 use std::alloc::{AllocError, Global};
 
-// A rule, as `show` tells it.
+// A rule, as `show` prints it.
 fn rule_text(alloc: Global, rule: &Rule) -> Result<Vec<u8>, AllocError>
     ensures { IfOk result (λ text. text.items ≡ rule_text rule.now) }
 {
@@ -28,7 +28,7 @@ fn rule_text(alloc: Global, rule: &Rule) -> Result<Vec<u8>, AllocError>
     Ok(text)
 }
 
-// Appends the rule of a number of a part to a text, with where it stands, to the end of its line.
+// Appends the rule of a number of a part to a text, with where it is written, to the end of its line.
 #[tactic(auto, unfolding(crate::specs::Telling::placed_line))]
 fn push_placed(
     finder: &mut Finder<'_>,
@@ -47,7 +47,7 @@ fn push_placed(
     Ok(())
 }
 
-// The same as a record of a kind.
+// The record of a kind for the rule of a number of a part, with where it is written.
 #[tactic(auto, unfolding(crate::specs::Telling::placed_record))]
 fn placed_record(
     finder: &mut Finder<'_>,
@@ -67,7 +67,7 @@ fn placed_record(
     Ok(made)
 }
 
-// The number of the rule by which a written rule is told.
+// The number of the rule by which a written rule is reported.
 fn shown_number(one: &RedundantRule) -> usize
     ensures { result ≡ shown_number one.now }
 {
@@ -111,7 +111,7 @@ fn push_redundant_line(
     push_placed(finder, part, number, rule, out)
 }
 
-// The same as a record.
+// The record of a written rule that decides nothing, by one of its rules.
 fn redundant_record(
     finder: &mut Finder<'_>,
     part: &Part<'_>,
@@ -127,7 +127,7 @@ fn redundant_record(
     Ok(made)
 }
 
-// Appends what is told of it.
+// Appends a written rule that decides nothing to a text, by one of its rules, as a line or a record.
 fn push_redundant_by(
     finder: &mut Finder<'_>,
     teller: Teller,
@@ -148,7 +148,7 @@ fn push_redundant_by(
     }
 }
 
-// The same by the number of that rule.
+// Appends a written rule that decides nothing to a text, by the number of one of its rules, as a line or a record.
 fn push_redundant(
     finder: &mut Finder<'_>,
     teller: Teller,
@@ -191,7 +191,7 @@ fn push_beside_words(same: bool, path: &[u8], out: &mut Vec<u8>) -> Result<(), A
     out.extend_from_slice(b": ")
 }
 
-// The kind of its record.
+// The kind of the record of a rule that stays.
 fn beside_kind(same: bool) -> &'static str
     ensures { result.now ≡ beside_kind same }
 {
@@ -215,7 +215,7 @@ fn push_beside_line(
     push_placed(finder, part, number, rule, out)
 }
 
-// Appends what is told of it.
+// Appends a rule that stays to a text, as a line or a record.
 fn push_beside_by(
     finder: &mut Finder<'_>,
     teller: Teller,
@@ -238,7 +238,7 @@ fn push_beside_by(
     }
 }
 
-// The same by its number, where the path and the rules are told.
+// Appends the rule of a number that stays to a text, as a line or a record.
 fn push_beside(
     finder: &mut Finder<'_>,
     teller: Teller,
@@ -260,7 +260,7 @@ fn push_beside(
     }
 }
 
-// The same of all rules that stay.
+// Appends all rules that stay to a text, as lines or records.
 fn push_overlap(
     finder: &mut Finder<'_>,
     teller: Teller,
@@ -279,7 +279,7 @@ fn push_overlap(
     Ok(())
 }
 
-// Appends a line that isn't of a rule to a text; in records it isn't told.
+// Appends a line that isn't of a rule to a text; records have none.
 fn push_line(form: Form, words: &str, out: &mut Vec<u8>) -> Result<(), AllocError>
     ensures { OnOk result (out.new.items ≡ out.old.items ++ plain_line form words.now) }
 {
@@ -322,12 +322,11 @@ fn push_told(
     push_example(finder, teller, part, &one.example, out)
 }
 
-/// Appends written rules of a part that decide nothing to a text, each with why: as a line with where it is written
-/// (`aatry_why_lines::push_where`), by the first of its rules that matches the path that is told, and below it a line
-/// for each rule that stays and covers something there, or that it matches no path. As records these are of the kinds
-/// `redundant`, `beside` and `same`, each with the part's full name (`name`), where it is written and the rule
-/// (`text`); a `redundant` one has `why`: `path`, with the path, `no_path`, or `too_many`, where its own paths are too
-/// many.
+/// Appends written rules of a part that decide nothing to a text, each with the reason: as a line with where it is written
+/// (`aatry_why_lines::push_where`), by the first of its rules that matches the reported path, and below it a line for each rule that stays and
+/// covers something there, or that it matches no path. As records these are of the kinds `redundant`, `beside` and `same`, each with the part's full
+/// name (`name`), where it is written and the rule (`text`); a `redundant` one has `why`: `path`, with the path, `no_path`, or `too_many`, where it
+/// has too many paths of its own.
 ///
 /// # Errors
 ///

@@ -1,4 +1,4 @@
-//! What sums up.
+//! The summary.
 
 ghost use Rattle.std.specs.Prelude.{◌≡◌, ◌≤◌, ◌++◌, IfOk, OnOk, count_by, length, map};
 ghost use Rattle.std.specs.List.{sum_by};
@@ -13,22 +13,22 @@ use aatry_policy::Part;
 use aatry_report::{Form, Record, Teller, push_number};
 use std::alloc::{AllocError, Global};
 
-/// What is counted.
+/// The counts of the summary.
 #[derive(Clone, Copy)]
 pub struct Counts {
     /// How many parts were looked at.
     pub all: usize,
     /// How many of their written rules decide nothing.
     pub told: usize,
-    /// How many were tried.
+    /// How many of them were tried.
     pub tried: usize,
-    /// Of how many parts paths are too many.
+    /// How many parts have too many paths.
     pub many: usize,
-    /// Of how many files that are named there is no part.
+    /// How many named files have no part.
     pub absent: usize,
 }
 
-// How many rules of a part are told.
+// How many rules of a part are reported.
 fn told_in(found: &Found<'_>) -> usize
     ensures { result ≡ told_in (seen_found found.now) }
 {
@@ -38,7 +38,7 @@ fn told_in(found: &Found<'_>) -> usize
     }
 }
 
-// How many were tried; of one whose paths are too many none.
+// How many rules of a part were tried; 0 where it has too many paths.
 fn tried_in(found: &Found<'_>) -> usize
     ensures { result ≡ tried_in (seen_found found.now) }
 {
@@ -48,7 +48,7 @@ fn tried_in(found: &Found<'_>) -> usize
     }
 }
 
-// How many rules of all parts are told.
+// How many rules of all parts are reported.
 fn told_count(found: &[Found<'_>]) -> Result<usize, AllocError>
     ensures { IfOk result (λ count. count ≡ sum_by told_in (map seen_found found.now)) }
 {
@@ -64,7 +64,7 @@ fn told_count(found: &[Found<'_>]) -> Result<usize, AllocError>
     Ok(count)
 }
 
-// How many were tried.
+// How many rules of all parts were tried.
 fn tried_count(found: &[Found<'_>]) -> Result<usize, AllocError>
     ensures { IfOk result (λ count. count ≡ sum_by tried_in (map seen_found found.now)) }
 {
@@ -80,7 +80,7 @@ fn tried_count(found: &[Found<'_>]) -> Result<usize, AllocError>
     Ok(count)
 }
 
-// Of how many parts paths are too many.
+// How many parts have too many paths.
 fn many_count(found: &[Found<'_>]) -> usize
     ensures counted { result ≡ count_by is_many (map seen_found found.now) }
     ensures few { result ≤ length found.now }
@@ -96,7 +96,7 @@ fn many_count(found: &[Found<'_>]) -> usize
     count
 }
 
-// Of how many files that are named there is no part.
+// How many named files have no part.
 fn absent_count(parts: &[Part<'_>], names: &[&[u8]]) -> usize
     ensures counted { result ≡ count_by (is_absent (map seen_part parts.now)) (map (λ name. name.now) names.now) }
     ensures few { result ≤ length names.now }
@@ -112,7 +112,7 @@ fn absent_count(parts: &[Part<'_>], names: &[&[u8]]) -> usize
     count
 }
 
-// All of these.
+// The counts of the summary.
 fn counts_of(parts: &[Part<'_>], names: &[&[u8]], found: &[Found<'_>]) -> Result<Counts, AllocError>
     ensures { IfOk result (λ counts. counts ≡ counts_of (map seen_part parts.now) (map (λ name. name.now) names.now) (map seen_found found.now)) }
 {
@@ -152,7 +152,7 @@ fn push_told(all: usize, told: usize, tried: usize, out: &mut Vec<u8>) -> Result
     Ok(())
 }
 
-// Appends what sums up to a text as a line.
+// Appends the summary to a text as a line.
 #[tactic(auto, unfolding(crate::specs::Summary::summary_line))]
 fn push_line(counts: Counts, out: &mut Vec<u8>) -> Result<(), AllocError>
     ensures { OnOk result (out.new.items ≡ out.old.items ++ summary_line counts) }
@@ -164,7 +164,7 @@ fn push_line(counts: Counts, out: &mut Vec<u8>) -> Result<(), AllocError>
     Ok(())
 }
 
-// What sums up, as a record.
+// The summary as a record.
 #[tactic(auto, unfolding(crate::specs::Summary::summary_record))]
 fn summary_record(alloc: Global, counts: Counts) -> Result<Record, AllocError>
     ensures { IfOk result (λ made. seen_record made ≡ summary_record counts) }
@@ -178,7 +178,7 @@ fn summary_record(alloc: Global, counts: Counts) -> Result<Record, AllocError>
     Ok(made)
 }
 
-// Appends what sums up to a text, by what is counted.
+// Appends the summary to a text, by its counts.
 fn push_counts(teller: Teller, counts: Counts, out: &mut Vec<u8>) -> Result<(), AllocError>
     ensures { OnOk result (out.new.items ≡ out.old.items ++ summary_by teller.form counts) }
 {
@@ -188,10 +188,9 @@ fn push_counts(teller: Teller, counts: Counts, out: &mut Vec<u8>) -> Result<(), 
     }
 }
 
-/// Appends what sums up to a text: how many parts were looked at, how many of their written rules decide nothing, of
-/// how many that were tried, of how many parts paths are too many, and how many files that are named aren't there,
-/// where there are such; or as a record of the kind `summary` with a number for each: `all`, `redundant`, `tried`,
-/// `too_many` and `absent`.
+/// Appends the summary to a text: how many parts were looked at, how many of their written rules decide nothing, of how many that were tried, how
+/// many parts have too many paths, and how many named files don't exist, where there are such; or as a record of the kind `summary` with a number
+/// for each: `all`, `redundant`, `tried`, `too_many` and `absent`.
 ///
 /// # Errors
 ///

@@ -1,4 +1,4 @@
-//! What is told of profiles, children and hats with written rules that decide nothing.
+//! The report on profiles, children and hats with written rules that decide nothing.
 
 ghost use Rattle.std.specs.Prelude.{◌≡◌, ◌++◌, ◌∷◌, [], OnOk, filter, flat_map, map};
 ghost use Rattle.aatry_check_rules.specs.Finding.{is_absent, seen_found};
@@ -46,7 +46,7 @@ fn push_heading_line(name: &[u8], count: usize, out: &mut Vec<u8>) -> Result<(),
     Ok(())
 }
 
-// The same; in records each rule has the part's name.
+// Appends the heading of a part to a text; records have none, since each rule has the part's name.
 fn push_heading(form: Form, name: &[u8], count: usize, out: &mut Vec<u8>) -> Result<(), AllocError>
     ensures { OnOk result (out.new.items ≡ out.old.items ++ heading_text form name.now count) }
 {
@@ -56,7 +56,7 @@ fn push_heading(form: Form, name: &[u8], count: usize, out: &mut Vec<u8>) -> Res
     }
 }
 
-// Appends what is told of a part to a text: nothing, where each of its rules decides something.
+// Appends the report on a part to a text: nothing, where each of its rules decides something.
 fn push_part(
     finder: &mut Finder<'_>,
     teller: Teller,
@@ -84,7 +84,7 @@ fn many_word(form: Form) -> &'static str
     }
 }
 
-// Appends what is told of what is found to a text.
+// Appends the report on what is found of a part to a text.
 fn push_found(
     finder: &mut Finder<'_>,
     teller: Teller,
@@ -101,7 +101,7 @@ fn push_found(
     }
 }
 
-// The same of all that is found.
+// Appends the report on all that is found to a text.
 fn push_each(
     finder: &mut Finder<'_>,
     teller: Teller,
@@ -119,9 +119,9 @@ fn push_each(
     Ok(())
 }
 
-/// Appends what is told of parts to a text, of each in its turn: a line with its full name and how many of its written
-/// rules decide nothing, where some do, and below it these rules (`push_rules`); or that its paths are too many. As
-/// records the rules alone are told, and one of the kind `too_many`, with the full name (`name`).
+/// Appends the report on parts to a text, one after another: a line with its full name and how many of its written rules decide nothing, where some
+/// do, and below it these rules (`push_rules`); or that it has too many paths. Records are of the rules alone, and one of the kind `too_many`, with
+/// the full name (`name`).
 ///
 /// # Errors
 ///
@@ -138,7 +138,7 @@ pub fn push_all(
     push_each(&mut finder, teller, found, out)
 }
 
-// Appends that no profile is loaded of a file that is named to a text, as a line.
+// Appends that no profile of a named file is loaded to a text, as a line.
 #[tactic(auto, unfolding(crate::specs::Telling::absent_line))]
 fn push_absent_line(name: &[u8], out: &mut Vec<u8>) -> Result<(), AllocError>
     ensures { OnOk result (out.new.items ≡ out.old.items ++ absent_line name.now) }
@@ -149,7 +149,7 @@ fn push_absent_line(name: &[u8], out: &mut Vec<u8>) -> Result<(), AllocError>
     Ok(())
 }
 
-// Appends what is told of it.
+// Appends that no profile of a named file is loaded to a text, as a line or a record.
 fn push_absent(teller: Teller, name: &[u8], out: &mut Vec<u8>) -> Result<(), AllocError>
     ensures { OnOk result (out.new.items ≡ out.old.items ++ absent_text teller.form name.now) }
 {
@@ -159,7 +159,7 @@ fn push_absent(teller: Teller, name: &[u8], out: &mut Vec<u8>) -> Result<(), All
     }
 }
 
-// The same, if no part is of the file.
+// Appends that no profile of a named file is loaded to a text, if no part is of the file.
 fn push_if_absent(
     teller: Teller,
     parts: &[Part<'_>],
@@ -174,8 +174,8 @@ fn push_if_absent(
     Ok(())
 }
 
-/// Appends the files to a text that are named and of which no part is: since there is no such file at the top of the
-/// folder, or it is left out, or has no profile. As records they are of the kind `absent`, with the name (`name`).
+/// Appends the named files of which no part is to a text: since there is no such file at the top of the folder, or it is left out, or has no
+/// profile. As records they are of the kind `absent`, with the name (`name`).
 ///
 /// # Errors
 ///

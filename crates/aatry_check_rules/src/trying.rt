@@ -15,13 +15,13 @@ use std::alloc::{AllocError, Global};
 /// Which written rules are tried.
 #[derive(Clone, Copy)]
 pub struct Which<'a> {
-    /// Whether those of included files are, too.
+    /// Whether rules of included files are tried, too.
     pub included: bool,
     /// All files of the folder.
     pub files: &'a Files,
 }
 
-// Whether a rule stands in the file of a name.
+// Whether a rule is written in the file of a name.
 fn is_in_file(files: &Files, name: &[u8], place: Option<Place>) -> bool
     ensures { result ≡ is_in_file files.now name.now place }
 {
@@ -31,14 +31,14 @@ fn is_in_file(files: &Files, name: &[u8], place: Option<Place>) -> bool
     }
 }
 
-// Whether rules are meant that stand at a place.
+// Whether rules that are written at a place are tried.
 fn is_meant(which: Which<'_>, name: &[u8], place: Option<Place>) -> bool
     ensures { result ≡ is_meant (seen_which which.entry) name.now place }
 {
     which.included || is_in_file(which.files, name, place)
 }
 
-// Whether a rule is the first on files of a written rule that is meant.
+// Whether a rule is the first on files of a written rule that is tried.
 fn is_tried(
     which: Which<'_>,
     name: &[u8],
@@ -52,7 +52,7 @@ fn is_tried(
     is_file(rule) && number_of(places, number, place) == number && is_meant(which, name, place)
 }
 
-// Appends the number of a rule, if it is.
+// Appends the number of a rule to `tried`, if it is the first on files of a written rule that is tried.
 fn push_tried(
     which: Which<'_>,
     name: &[u8],
@@ -69,7 +69,7 @@ fn push_tried(
     Ok(())
 }
 
-// The numbers of the written rules that are tried, in the order in which they stand.
+// The numbers of the written rules that are tried, in the order in which they are written.
 fn tried_in(
     alloc: Global,
     which: Which<'_>,
@@ -90,9 +90,8 @@ fn tried_in(
     Ok(tried)
 }
 
-/// The written rules of a part that are tried, those that stand later first, where its rules on files stand at these
-/// places: those of its own file, or all. Where its rules aren't asked, since it is in mode unconfined or disabled,
-/// none is.
+/// The written rules of a part that are tried, the later first, where its rules on files are written at these places: those of its own file, or all.
+/// Where its rules don't decide, since it is in mode unconfined or disabled, none is.
 ///
 /// # Errors
 ///

@@ -1,4 +1,4 @@
--- What is claimed by words, and paths that say otherwise.
+-- Claims by words, and paths that break them.
 use Rattle.std.specs.Prelude.{Option, None, Some}
 use Rattle.aa_explain_paths.specs.Answers.{Breaking, seen_breaking}
 use Rattle.aa_explain_paths.specs.declared.question.Claim.{Claim}
@@ -7,12 +7,12 @@ use Rattle.aatry_claims.specs.Words.{PathWords}
 use Rattle.aatry_claims.specs.declared.found.Finding.{Finding}
 use Rattle.aatry_claims.specs.declared.found.Finding.TheVariants.{Absent, ByRules}
 
--- what is claimed, by words
+-- a claim, by its words
 pub record Claimed : Type 0 where
   pub claim : Claim
   pub words : PathWords
 
--- the path that says otherwise, where one is found: with what `IsFound` promises of it (`breaking_by`)
+-- the path that breaks the claim, where one is found: with what `IsFound` promises of it (`breaking_by`)
 abbrev pub breaking_of : Finding → Option Breaking
 breaking_of (ByRules (Fails breaking)) = Some (seen_breaking breaking)
 breaking_of (ByRules (Holds count)) = None

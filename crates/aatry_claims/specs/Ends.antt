@@ -1,4 +1,4 @@
--- With which faults it may end to ask about all paths.
+-- The faults with which a question about all paths may end.
 use Rattle.std.specs.Prelude.{◌≡◌, ◌⊎◌, ℕ, List, None, Option, Some}
 use Rattle.aa_profile_parsing.specs.declared.language.Language.{Language}
 use Rattle.aa_text_files.specs.Files.{File}
@@ -12,12 +12,12 @@ use Rattle.aatry_folder.specs.declared.fault.Fault.TheVariants.{BadQuestion}
 use Rattle.aatry_claims.specs.Patterns.{asked_patterns}
 use Rattle.aatry_claims.specs.Words.{PathWords, path_words}
 
--- words ask about no paths of a folder's: they say no such thing, or their pattern isn't taken among these files
+-- words make no question about paths of a folder: they are no such words, or their pattern isn't accepted among these files
 abbrev pub AskNoPaths : Language → List File → List (List ℕ) → Type 0
 AskNoPaths language files words =
     (path_words words ≡ None) ⊎ ((asked : PathWords) × (path_words words ≡ Some asked) × (asked_patterns language files asked.pattern ≡ None))
 
--- The command may end with this fault: its folder can't be read, or the words ask about no paths, with the files that lie below it.
+-- The command may end with this fault: its folder can't be read, or the words make no question about paths, with the files that lie below it.
 abbrev pub IsEndOfPaths : Language → ToldFolders → Known → List ℕ → List (List ℕ) → Fault → Type 0
 IsEndOfPaths language folders known base words fault =
     IsOfFolder folders base fault

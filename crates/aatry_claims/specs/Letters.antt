@@ -1,8 +1,8 @@
--- Letters in words: what they let do.
+-- Letters in words: what they allow.
 use Rattle.std.specs.Prelude.{ℕ, ◌==◌, if◌then◌else◌, List, [], ◌++◌, codes}
 use Rattle.aa_profile_data.specs.Access.{APPEND, EXEC, LINK, LOCK, MAP, READ, WRITE, common}
 
--- the word of a letter, if it is among some, and ahead of it what stands between two, if an earlier letter is among them
+-- the word of a letter, if it is among some, with the separator before it, if an earlier letter is among them
 abbrev pub word_of : ℕ → ℕ → ℕ → List ℕ → List ℕ → List ℕ
 word_of letters letter earlier word between =
     if common letters letter == 0 then [] else (if common letters earlier == 0 then [] else between) ++ word

@@ -1,4 +1,4 @@
--- What is told where something is claimed of all paths, by the policy of a folder (docs/aatry.md, "`aatry never` and `aatry always`").
+-- The report on a claim about all paths, by the policy of a folder (docs/aatry.md, "`aatry never` and `aatry always`").
 use Rattle.std.specs.Prelude.{◌≡◌, ℕ, Bool, not, if◌then◌else◌, List, ◌++◌, Some, Option}
 use Rattle.aa_explain_paths.specs.declared.question.Claim.{Claim}
 use Rattle.aa_explain_paths.specs.declared.question.Claim.TheVariants.{Always, Never}
@@ -21,11 +21,11 @@ use Rattle.aatry_claims.specs.Telling.{all_told, has_undecided, is_refuted}
 use Rattle.aatry_claims.specs.Words.{PathWords, path_words}
 use Rattle.aatry_claims.specs.declared.never.PathsReport.{PathsReport as CodeReport}
 
--- what is claimed
+-- the claim of `always`, or of `never`
 abbrev pub claim_of : Bool → Claim
 claim_of always = if always then Always else Never
 
--- what it came to: the report, and whether nothing is known of somebody
+-- the outcome: the report, and whether the claim is undecided for a name
 pub record PathsReport : Type 0 where
   pub report : Report
   pub undecided : Bool
@@ -33,8 +33,8 @@ pub record PathsReport : Type 0 where
 abbrev pub seen_paths_report : CodeReport → PathsReport
 seen_paths_report told = record { report = seen_report told.report; undecided = told.undecided }
 
--- What is found of those who are asked about, by the folder's profiles, children and hats, is right (`IsFound`), and is told behind a text. It failed
--- where the claim is refuted.
+-- The findings for the names that are asked about, by the folder's profiles, children and hats, are right (`IsFound`), and are appended to a text.
+-- It failed where the claim is refuted.
 pub record IsClaimTold (form : Form) (names : Bool) (limit : ℕ) (folder : Folder) (claimed : Claimed) (patterns : List (List ℕ)) (before after : List ℕ) (failed : ℕ) (undecided : Bool) : Type 0 where
   pub found : List Found
   pub right : AreFound (asked_of claimed.claim claimed.words patterns) limit (parts_in folder) (names_or claimed.words.whom (parts_in folder)) found
@@ -42,7 +42,7 @@ pub record IsClaimTold (form : Form) (names : Bool) (limit : ℕ) (folder : Fold
   pub counted : failed ≡ failed_by (not (is_refuted found))
   pub unknown : undecided ≡ has_undecided found
 
--- The words ask about all paths of some patterns, and a text tells the files that are left out, at length or not, and what is found.
+-- The words make a question about all paths of some patterns, and a text has the files that are left out, verbose or not, and the findings.
 pub record IsPathsTold (form : Form) (verbose : Bool) (claim : Claim) (names : Bool) (limit : ℕ) (folder : Folder) (words : List (List ℕ)) (told : PathsReport) : Type 0 where
   pub asked : PathWords
   pub said : path_words words ≡ Some asked

@@ -1,4 +1,4 @@
--- What contracts see of what is claimed.
+-- What contracts see of a claim.
 use Rattle.aatry_claims.specs.Claimed.{Claimed}
 use Rattle.aatry_claims.specs.Words.{seen_words}
 use Rattle.aatry_claims.specs.declared.breaking.Claimed.{Claimed as CodeClaimed}

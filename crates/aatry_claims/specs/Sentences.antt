@@ -1,4 +1,4 @@
--- The line of who was asked about (docs/aatry.md, "`aatry never` and `aatry always`").
+-- The line on who was asked about (docs/aatry.md, "`aatry never` and `aatry always`").
 use Rattle.std.specs.Prelude.{ℕ, Bool, true, false, List, [], ◌∷◌, ◌++◌, Option, None, Some, codes}
 use Rattle.std.specs.Fmt.{decimal}
 use Rattle.aa_bytes.specs.Bytes.{line_feed}
@@ -17,12 +17,12 @@ use Rattle.aatry_claims.specs.Letters.{letter_words}
 use Rattle.aatry_claims.specs.declared.found.Finding.{Finding}
 use Rattle.aatry_claims.specs.declared.found.Finding.TheVariants.{Absent, ByRules}
 
--- the word of an answer where what is claimed holds
+-- the word of an answer where the claim holds
 abbrev pub claim_word : Claim → List ℕ
 claim_word Never = codes "never"
 claim_word Always = codes "always"
 
--- the word of what rules say
+-- the word of the rules' answer
 abbrev pub rules_word : Claim → PathAnswer → List ℕ
 rules_word claim (Holds count) = claim_word claim
 rules_word claim (Fails breaking) = codes "no"
@@ -38,7 +38,7 @@ abbrev pub owner_word : Bool → List ℕ
 owner_word true = codes "owner"
 owner_word false = codes "other"
 
--- what stands between letters, and which paths are meant, where what is claimed holds
+-- the words between letters, and on which paths are meant, where the claim holds
 abbrev pub holds_between : Claim → List ℕ
 holds_between Never = codes " or "
 holds_between Always = codes " and "
@@ -47,13 +47,13 @@ abbrev pub holds_which : Claim → List ℕ
 holds_which Never = codes " no path that "
 holds_which Always = codes " each path that "
 
--- the sentence where what is claimed holds
+-- the sentence where the claim holds
 unfoldable pub holds_sentence : Claimed → List ℕ → ℕ → List ℕ
 holds_sentence claimed name count =
     shown name ++ codes " may " ++ letter_words claimed.words.letters (holds_between claimed.claim) ++ holds_which claimed.claim ++ shown claimed.words.pattern
     ++ codes " matches (kinds of paths: " ++ decimal count ++ codes ")"
 
--- what a path that says otherwise lets or doesn't let, and what stands between its letters
+-- the words on what a path that breaks the claim allows or doesn't allow, and those between its letters
 abbrev pub breaking_may : Claim → List ℕ
 breaking_may Never = codes " may "
 breaking_may Always = codes " may not "
@@ -62,7 +62,7 @@ abbrev pub breaking_between : Claim → List ℕ
 breaking_between Never = codes " and "
 breaking_between Always = codes " or "
 
--- the sentence on a path that says otherwise
+-- the sentence on a path that breaks the claim
 unfoldable pub breaking_sentence : Claim → List ℕ → Breaking → List ℕ
 breaking_sentence claim name breaking =
     shown name ++ breaking_may claim ++ letter_words breaking.letters (breaking_between claim) ++ codes " " ++ shown breaking.path ++ codes " ("
@@ -78,7 +78,7 @@ unfoldable pub sentence : Claimed → List ℕ → Finding → List ℕ
 sentence claimed name Absent = codes "nobody has the name " ++ shown name
 sentence claimed name (ByRules answer) = rules_sentence claimed name answer
 
--- what is said of the mode in which somebody is, where that isn't enforce mode: none where it is disabled
+-- the words on a mode, where it isn't enforce mode; there is none where it is disabled
 abbrev pub mode_words : Option Mode → List ℕ
 mode_words (Some mode.Enforce) = []
 mode_words (Some mode.Complain) = codes "; it is in complain mode, and asked as in enforce mode"
@@ -89,12 +89,12 @@ abbrev pub mode_note : Option Part → List ℕ
 mode_note None = []
 mode_note (Some part) = mode_words part.section.mode
 
--- the line of who was asked about
+-- the line on who was asked about
 unfoldable pub found_line : Claimed → Found → List ℕ
 found_line claimed found =
     answer_word claimed.claim found.finding ++ codes ": " ++ sentence claimed found.name found.finding ++ mode_note found.part ++ line_feed ∷ []
 
--- what is claimed holds of who was asked about
+-- the claim holds for who was asked about
 abbrev pub rules_hold : PathAnswer → Bool
 rules_hold (Holds count) = true
 rules_hold (Fails breaking) = false
@@ -104,7 +104,7 @@ abbrev pub is_held : Finding → Bool
 is_held Absent = false
 is_held (ByRules answer) = rules_hold answer
 
--- nothing is known, since there were too many paths
+-- the claim is undecided, since there were too many paths
 abbrev pub is_undecided : Finding → Bool
 is_undecided (ByRules TooMany) = true
 is_undecided (ByRules (Holds count)) = false

@@ -1,4 +1,4 @@
--- What is told of those who are asked about (docs/aatry.md, "`aatry never` and `aatry always`").
+-- The report on who is asked about (docs/aatry.md, "`aatry never` and `aatry always`").
 use Rattle.std.specs.Prelude.{ℕ, Bool, true, false, not, ◌&&◌, if◌then◌else◌, List, [], ◌++◌, Option, None, Some, codes, flat_map}
 use Rattle.std.specs.List.{list_any}
 use Rattle.serde_json.specs.Data.{Members}
@@ -24,19 +24,19 @@ use Rattle.aatry_report.specs.declared.form.Form.TheVariants.{Lines, Records}
 use Rattle.aatry_why_lines.specs.Why.{why_lines}
 use Rattle.aatry_why_lines.specs.Written.{Written}
 
--- the mode in a word, or that it is disabled
+-- the mode in a word, or `disabled`
 abbrev pub mode_word : Option Mode → List ℕ
 mode_word (Some mode.Enforce) = codes "enforce"
 mode_word (Some mode.Complain) = codes "complain"
 mode_word (Some mode.Unconfined) = codes "unconfined"
 mode_word None = codes "disabled"
 
--- the members of a record on a path that says otherwise
+-- the members of a record on a path that breaks the claim
 abbrev pub with_breaking : Breaking → Members → Members
 with_breaking breaking members =
     with_text (codes "owned") (owner_word breaking.owned) (with_text (codes "letters") (letters_of breaking.letters) (with_text (codes "path") breaking.path members))
 
--- those on what rules say: where what is claimed holds, how many kinds of paths were looked at
+-- the members on the rules' answer: where the claim holds, how many kinds of paths were looked at
 abbrev pub with_answer : PathAnswer → Members → Members
 with_answer (Holds count) members = with_number (codes "kinds") count members
 with_answer (Fails breaking) members = with_breaking (seen_breaking breaking) members
@@ -50,13 +50,13 @@ abbrev pub with_mode : Option Part → Members → Members
 with_mode None members = members
 with_mode (Some part) members = with_text (codes "mode") (mode_word part.section.mode) members
 
--- the record of who was asked about
+-- the record on who was asked about
 unfoldable pub found_record : Claimed → Found → Members
 found_record claimed found =
     with_mode found.part (with_finding found.finding
     (with_text (codes "answer") (answer_word claimed.claim found.finding) (with_text (codes "who") found.name (record_of (codes "paths")))))
 
--- what is told of it
+-- the line or record on who was asked about
 abbrev pub found_text : Form → Claimed → Found → List ℕ
 found_text Lines claimed found = found_line claimed found
 found_text Records claimed found = record_line (found_record claimed found)
@@ -71,17 +71,17 @@ written_of below part = record {
   places = part.places;
 }
 
--- something isn't let that is claimed to be
+-- the claim is that something is allowed, so that a path that breaks it lacks a rule
 abbrev pub is_lacking : Claim → Bool
 is_lacking Never = false
 is_lacking Always = true
 
--- the rules behind a path that says otherwise, as `why` tells them
+-- the rules that decide a path that breaks the claim, as `why` prints them
 unfoldable pub asked_lines : Form → PolicyFiles → Claim → Part → Breaking → List ℕ
 asked_lines form below claim part breaking =
     why_lines form (written_of below part) (ForFile breaking.letters breaking.owned breaking.path) (is_lacking claim)
 
--- the same, where they are asked
+-- the rules that decide a path that breaks the claim, where they decide
 abbrev pub breaking_lines : Form → PolicyFiles → Claim → Part → Breaking → List ℕ
 breaking_lines form below claim part breaking = if asks_rules part.section.mode then asked_lines form below claim part breaking else []
 
@@ -89,17 +89,17 @@ abbrev pub rule_lines : Form → PolicyFiles → Claim → Option Part → Optio
 rule_lines form below claim (Some part) (Some breaking) = breaking_lines form below claim part breaking
 rule_lines form below claim part breaking = []
 
--- what is told of who was asked about, with the rules, unless names alone are to be told
+-- the report on who was asked about, with the rules, unless only names are reported
 abbrev pub told : Form → Bool → PolicyFiles → Claimed → Found → List ℕ
 told form names below claimed found =
     found_text form claimed found
     ++ (if names then [] else rule_lines form below claimed.claim found.part (breaking_of found.finding))
 
--- the same of all of them
+-- the report on all who were asked about
 abbrev pub all_told : Form → Bool → PolicyFiles → Claimed → List Found → List ℕ
 all_told form names below claimed found = flat_map (told form names below claimed) found
 
--- somebody says otherwise, or isn't there; and nothing is known of somebody
+-- a name breaks the claim, or doesn't exist; and the claim is undecided for a name
 abbrev pub is_refuted : List Found → Bool
 is_refuted found = list_any (λ found. not (is_held found.finding) && not (is_undecided found.finding)) found
 

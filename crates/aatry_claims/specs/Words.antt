@@ -7,7 +7,7 @@ use Rattle.aa_explain_paths.specs.declared.question.Whose.TheVariants.{Any, Othe
 use Rattle.aa_profile_data.specs.Access.{common, told_bit, union}
 use Rattle.aatry_claims.specs.declared.words.PathWords.{PathWords as CodeWords}
 
--- what such words say
+-- the words of such a question, as read
 pub record PathWords : Type 0 where
   pub letters : ℕ
   pub whose : Whose
@@ -21,14 +21,14 @@ seen_words words = record { letters = words.letters.0; whose = words.whose; patt
 abbrev pub letter_of : ℕ → Option ℕ
 letter_of letter = told_bit letter
 
--- a set with a letter more, if that isn't in it already
+-- a set with one letter more, if that isn't in it already
 abbrev pub with_bit : ℕ → ℕ → Option ℕ
 with_bit set bit = if not (common set bit == 0) then None else Some (union set bit)
 
 abbrev pub with_letter : ℕ → ℕ → Option ℕ
 with_letter set letter = option_and_then (with_bit set) (letter_of letter)
 
--- a set with the letters of a text more
+-- a set with the letters of a text added
 abbrev pub letters_from : ℕ → List ℕ → Option ℕ
 letters_from set [] = Some set
 letters_from set (letter ∷ letters) = elim (with_letter set letter) [ None ↦ None | Some more ↦ letters_from more letters ]
@@ -46,13 +46,13 @@ whose_of word =
     else if bytes_eq word (codes "any") then Some Any
     else None
 
--- what they say, with these letters and owners, if there are both
+-- the question, with these letters and owners, if there are both
 abbrev pub words_with : Option ℕ → Option Whose → List ℕ → List (List ℕ) → Option PathWords
 words_with None whose pattern whom = None
 words_with (Some letters) None pattern whom = None
 words_with (Some letters) (Some whose) pattern whom = Some (record { letters = letters; whose = whose; pattern = pattern; whom = whom })
 
--- what words say that ask about all paths; none where they don't
+-- the words of a question about all paths; none where they make no such question
 abbrev pub path_words : List (List ℕ) → Option PathWords
 path_words (access ∷ owned ∷ pattern ∷ whom) = words_with (letters_of access) (whose_of owned) pattern whom
 path_words words = None

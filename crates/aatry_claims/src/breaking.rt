@@ -1,4 +1,4 @@
-//! Claims by words, and the path that says otherwise.
+//! Claims by words, and the path that breaks them.
 
 ghost use Rattle.std.specs.Prelude.{◌≡◌, option_map};
 ghost use Rattle.aa_explain_paths.specs.Answers.{seen_breaking};
@@ -8,16 +8,16 @@ use crate::found::Finding;
 use crate::words::PathWords;
 use aa_explain_paths::{Breaking, Claim, PathAnswer};
 
-/// What is claimed, by words.
+/// A claim, by its words.
 #[derive(Clone, Copy)]
 pub struct Claimed<'a> {
-    /// What is claimed of the paths.
+    /// The claim.
     pub claim: Claim,
     /// The words.
     pub words: PathWords<'a>,
 }
 
-/// The path that says otherwise, if one was found.
+/// The path that breaks the claim, if one was found.
 pub fn breaking_of(finding: &Finding) -> Option<&Breaking>
     ensures { option_map (λ breaking. seen_breaking breaking.now) result ≡ breaking_of finding.now }
 {

@@ -1,4 +1,4 @@
-//! What is wrong with words that ask about no paths.
+//! What is wrong with words that make no question about all paths.
 
 use crate::words::{letters_of, whose_of};
 use aatry_report::push_shown;
@@ -38,7 +38,8 @@ fn push_fault(words: &[String], out: &mut Vec<u8>) -> Result<(), AllocError> {
     push_bad_pattern(pattern.as_str(), out)
 }
 
-/// The line that tells what is wrong with words that ask about no paths: that they are too few, the access, the owner, or else the pattern.
+/// The line that says what is wrong with words that make no question about all paths: that they are too few, the access, the owner, or else the
+/// pattern.
 ///
 /// # Errors
 ///

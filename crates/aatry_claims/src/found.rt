@@ -1,4 +1,4 @@
-//! What profiles, children and hats are answered that a question about all paths asks about.
+//! The answers for profiles, children and hats in a question about all paths.
 
 ghost use Rattle.std.specs.Prelude.{◌≡◌, ◌++◌, ◌∷◌, [], IfOk, OnOk, Some, map};
 ghost use Rattle.aa_explain_paths.specs.SeenAsked.{seen_asked};
@@ -12,40 +12,41 @@ use aatry_policy::{Part, part_of};
 use bitflags::Flags;
 use std::alloc::{AllocError, Global};
 
-/// What somebody is answered.
+/// The answer for a full name.
 #[derive(Drop)]
 pub enum Finding {
-    /// Nobody has the name.
+    /// No profile, child or hat has the name.
     Absent,
-    /// What the rules say of all paths.
+    /// The answer of the rules for all paths.
     ByRules(PathAnswer),
 }
 
-/// Who is asked about, and what is found.
+/// A full name that is asked about, and the answer.
 #[derive(Drop)]
 pub struct Found<'a> {
     /// The full name.
     pub name: &'a [u8],
     /// The profile, child or hat of that name, if there is one.
     pub part: Option<&'a Part<'a>>,
-    /// What is answered by the rules that are asked: where its own aren't, since its mode is unconfined or it is disabled, by one that lets all.
+    /// The answer by the rules that decide: its own, or, where these don't since its mode is unconfined or it is disabled, one that allows
+    /// everything.
     pub finding: Finding,
 }
 
-/// What is asked, and of whom it may be.
+/// A question, and what is needed to answer it.
 #[derive(Clone, Copy)]
 pub struct Inquiry<'a, 'q> {
     /// The question.
     pub question: PathQuestion<'q>,
-    /// How many sets of states are looked at, at most, for each who is asked about.
+    /// How many sets of states are looked at, at most, for each full name.
     pub limit: usize,
-    /// The profiles, children and hats that there are.
+    /// All profiles, children and hats.
     pub parts: &'a [Part<'a>],
-    /// The rule that lets all (`every_rule`), alone.
+    /// The rule that allows everything (`every_rule`), alone.
     pub all: &'a [Rule],
 }
 
-/// Whether the rules of who is in a mode are asked.
+/// Whether the rules of a profile, child or hat in a mode decide.
 pub fn asks_rules(mode: Option<Mode>) -> bool
     ensures { result ≡ asks_rules mode }
 {
@@ -55,7 +56,7 @@ pub fn asks_rules(mode: Option<Mode>) -> bool
     }
 }
 
-/// The rule that lets all of each file.
+/// The rule that allows all access to each file.
 ///
 /// # Errors
 ///
@@ -65,7 +66,7 @@ pub fn every_rule(alloc: Global) -> Result<Rule, AllocError>
 {
     let pattern = match Pattern::read(alloc, b"/{**,}") {
         Ok(pattern) => pattern,
-        // It reads, so memory alone can be wanting.
+        // The pattern is read, so only memory can run out.
         Err(_) => return Err(AllocError),
     };
     Ok(Rule::File(FileRule {
@@ -80,7 +81,7 @@ pub fn every_rule(alloc: Global) -> Result<Rule, AllocError>
     }))
 }
 
-// The rules that are asked of a part: its own, or those that let all.
+// The rules that decide for a part: its own, or those that allow everything.
 fn rules_asked<'a>(part: &'a Part<'a>, all: &'a [Rule]) -> &'a [Rule]
     requires { all.now ≡ every_rule ∷ [] }
     ensures { result.now ≡ rules_asked (seen_part part.now) }
@@ -92,7 +93,7 @@ fn rules_asked<'a>(part: &'a Part<'a>, all: &'a [Rule]) -> &'a [Rule]
     }
 }
 
-// What a part is answered, which has a name.
+// The answer for a part with a name.
 fn found_by<'a>(
     alloc: Global,
     inquiry: Inquiry<'a, '_>,
@@ -113,7 +114,7 @@ fn found_by<'a>(
     })
 }
 
-// What who has a name is answered.
+// The answer for a name.
 fn found_of<'a>(
     alloc: Global,
     inquiry: Inquiry<'a, '_>,
@@ -133,7 +134,7 @@ fn found_of<'a>(
     }
 }
 
-// Appends what who has a name is answered to others.
+// Appends the answer for a name to `out`.
 fn push_found<'a>(
     alloc: Global,
     inquiry: Inquiry<'a, '_>,
@@ -150,7 +151,7 @@ fn push_found<'a>(
     Ok(())
 }
 
-// What those are answered whom words name.
+// The answers for the named ones.
 fn find_named<'a>(
     alloc: Global,
     inquiry: Inquiry<'a, '_>,
@@ -169,7 +170,7 @@ fn find_named<'a>(
     Ok(found)
 }
 
-// What all parts are answered.
+// The answers for all parts.
 fn find_all<'a>(alloc: Global, inquiry: Inquiry<'a, '_>) -> Result<Vec<Found<'a>>, AllocError>
     requires { inquiry.all.now ≡ every_rule ∷ [] }
     ensures { IfOk result (λ found. AreFound (seen_asked inquiry.entry.question) inquiry.entry.limit (map seen_part inquiry.entry.parts.now)
@@ -184,7 +185,7 @@ fn find_all<'a>(alloc: Global, inquiry: Inquiry<'a, '_>) -> Result<Vec<Found<'a>
     Ok(found)
 }
 
-/// What those are answered whom words name, in their order, or all parts, where words name nobody.
+/// The answers for the named ones, in their order, or for all parts, where there is no name.
 ///
 /// # Errors
 ///

@@ -7,7 +7,7 @@ use aa_profile_data::Perms;
 use bitflags::Flags;
 use std::alloc::AllocError;
 
-// Appends the word of a letter to a text, if it is among some, and ahead of it what stands between two, if an earlier letter is among them.
+// Appends the word of a letter to a text, if it is among some, with the separator before it, if an earlier letter is among them.
 fn push_word(
     letters: Perms,
     letter: Perms,
@@ -28,7 +28,7 @@ fn push_word(
     Ok(())
 }
 
-/// Appends letters to a text, in words: what they let do.
+/// Appends letters to a text, in words: what they allow.
 ///
 /// # Errors
 ///

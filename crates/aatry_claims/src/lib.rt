@@ -1,5 +1,5 @@
-//! Claims about all paths: their words, the patterns that are meant, what profiles, children and hats are answered; and the commands `never` and `always`,
-//! which tell it of a folder, with a path that says otherwise, and the rules behind that.
+//! Claims about all paths: their words, the patterns that are meant, and the answers for profiles, children and hats; and the commands `never` and
+//! `always`, which report them for a folder, with a path that breaks the claim, and the rules that decide that.
 #![tactic(auto)]
 
 mod breaking;

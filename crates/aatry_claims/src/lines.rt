@@ -1,4 +1,4 @@
-//! The line of who was asked about.
+//! The line on who was asked about.
 
 ghost use Rattle.std.specs.Prelude.{◌≡◌, ◌++◌, OnOk, option_map};
 ghost use Rattle.aatry_claims.specs.Found.{seen_found};
@@ -14,7 +14,7 @@ use aa_profile_data::Mode;
 use aatry_policy::Part;
 use std::alloc::AllocError;
 
-// What is said of the mode in which somebody is, where that isn't enforce mode.
+// The words on a mode, where it isn't enforce mode.
 fn mode_words(mode: Option<Mode>) -> &'static str
     ensures { result.now ≡ mode_words mode }
 {
@@ -26,7 +26,7 @@ fn mode_words(mode: Option<Mode>) -> &'static str
     }
 }
 
-// Appends what is said of the mode of a part to a text, if there is one.
+// Appends the words on the mode of a part to a text, if there is one.
 fn push_mode_note(part: Option<&Part<'_>>, out: &mut Vec<u8>) -> Result<(), AllocError>
     ensures { OnOk result (out.new.items ≡ out.old.items ++ mode_note (option_map (λ part. seen_part part.now) part.entry)) }
 {
@@ -36,7 +36,7 @@ fn push_mode_note(part: Option<&Part<'_>>, out: &mut Vec<u8>) -> Result<(), Allo
     }
 }
 
-/// Appends the line of who was asked about to a text: the answer in a word, and a sentence.
+/// Appends the line on who was asked about to a text: the answer in a word, and a sentence.
 ///
 /// # Errors
 ///
@@ -57,7 +57,7 @@ pub fn push_line(
     Ok(())
 }
 
-// Whether what is claimed holds by the rules.
+// Whether the claim holds by the rules.
 fn rules_hold(answer: &PathAnswer) -> bool
     ensures { result ≡ rules_hold answer.now }
 {
@@ -67,7 +67,7 @@ fn rules_hold(answer: &PathAnswer) -> bool
     }
 }
 
-/// Whether what is claimed holds of who was asked about.
+/// Whether the claim holds for who was asked about.
 pub fn is_held(finding: &Finding) -> bool
     ensures { result ≡ is_held finding.now }
 {
@@ -77,7 +77,7 @@ pub fn is_held(finding: &Finding) -> bool
     }
 }
 
-/// Whether nothing is known of who was asked about, since there were too many paths.
+/// Whether the claim is undecided for who was asked about, since there were too many paths.
 pub fn is_undecided(finding: &Finding) -> bool
     ensures { result ≡ is_undecided finding.now }
 {

@@ -1,4 +1,4 @@
-//! What is claimed of all paths, asked of the policy of a folder.
+//! Claims about all paths, asked of the policy of a folder.
 
 ghost use Rattle.std.specs.Prelude.{◌≡◌, ◌⊎◌, IfErr, IfOk, map, string_bytes};
 ghost use Rattle.aa_start.specs.Gathering.{texts_of};
@@ -23,34 +23,34 @@ use aatry_policy::{LoadedFolder, load_folder, parts_of};
 use aatry_report::Teller;
 use std::alloc::{AllocError, Global};
 
-/// What a question about all paths came to.
+/// The outcome of a question about all paths.
 #[derive(Drop)]
 pub struct PathsReport {
-    /// What is told, noted, and failed: it failed where somebody says otherwise than is claimed, or isn't there.
+    /// The report, with its notes and failures: it failed where a name breaks the claim, or doesn't exist.
     pub report: Report,
-    /// Whether nothing is known of somebody, since there were too many paths.
+    /// Whether the claim is undecided for a name, since there were too many paths.
     pub undecided: bool,
 }
 
 /// How a question about all paths is to be answered.
 #[derive(Clone, Copy)]
 pub struct PathsAsked {
-    /// What is claimed.
+    /// The claim.
     pub claim: Claim,
-    /// Whether names alone are to be told, without rules.
+    /// Whether only names are reported, without rules.
     pub names: bool,
-    /// How many sets of states are to be looked at, at most, for each of those who are asked about.
+    /// How many sets of states are looked at, at most, for each profile, child or hat that is asked about.
     pub limit: usize,
 }
 
-// What is claimed.
+// The claim of `always`, or of `never`.
 fn claim_of(always: bool) -> Claim
     ensures { result ≡ claim_of always }
 {
     if always { Claim::Always } else { Claim::Never }
 }
 
-// Appends what is told of the claim by the policy of a folder that is loaded to what was told before, and notes whether it failed, and is undecided.
+// Appends the report on the claim by the policy of a loaded folder to the report so far, and notes whether it failed, and is undecided.
 fn tell(
     teller: Teller,
     loaded: &LoadedFolder<'_>,
@@ -104,7 +104,7 @@ fn slices_of(alloc: Global, words: &[String]) -> Result<Vec<&[u8]>, AllocError>
     Ok(slices)
 }
 
-// The same of a folder that was read, by words, with what is told of the files that are left out before it, and what is noted of them.
+// The outcome for a folder that was read, by words, with the files that are left out in front of the report, and the notes on them.
 fn told_of(
     teller: Teller,
     folder: &PolicyFolder<'_>,
@@ -138,27 +138,26 @@ fn told_of(
     Ok(PathsReport { report, undecided })
 }
 
-/// Whether what is claimed of all paths holds of profiles, children and hats of a folder, read by a language: `never`, that they let nothing of some access
-/// to any file of a pattern, or `always`, that they let all of it to each. The words say which letters, whose files, the pattern and who is asked about
-/// (`path_words`); the pattern stands for what a rule's does, by the folder's variables (`asked_patterns`). Reads the folder as
-/// `aatry_folder::policy_below` does. First come the files that are left out, where they are told, and it is noted how many they are
-/// (`aatry_policy::load_folder`). Then come those who are asked about, in the order of the words, or of the set where all are: a line for each
-/// that begins with the answer, and where a path says otherwise the rules behind that (`aatry_why_lines::push_why`), unless names alone
-/// are to be told. What is claimed is asked by the rules in enforce mode (`aa_explain_paths::ask_all_paths`).
+/// Whether a claim about all paths holds for profiles, children and hats of a folder, read by a language: `never`, that they allow none of some
+/// access to any file of a pattern, or `always`, that they allow all of it to each. The words give the letters, whose files, the pattern and who is
+/// asked about (`path_words`); the pattern is expanded like that of a rule, by the folder's variables (`asked_patterns`). The folder is read as by
+/// `aatry_folder::policy_below`. First come the files that are left out, where these are reported, and it is noted how many they are
+/// (`aatry_policy::load_folder`). Then come those who are asked about, in the order of the words, or of the set where all are: a line for each that
+/// begins with the answer, and where a path breaks the claim the rules that decide it (`aatry_why_lines::push_why`), unless only names are reported.
+/// The claim is about the rules in enforce mode (`aa_explain_paths::ask_all_paths`).
+/// - `never` or `always`: the claim holds; it is followed by how many kinds of paths there are.
+/// - `no`: this path, than which none is shorter, breaks the claim. Where no rule decides, everything is allowed.
+/// - `many`: there are too many different paths, more than the limit; the claim is undecided.
+/// - `absent`: there is no profile, child or hat of the name.
 ///
-/// - `never` or `always`: what is claimed holds; behind it stands how many kinds of paths there are.
-/// - `no`: this path, than which none is shorter, says otherwise. Where no rule is asked, all is let.
-/// - `many`: there are too many different paths, more than the limit; nothing is known.
-/// - `absent`: nobody has the name.
-///
-/// As records the lines are of the kind `paths`, with the members `who` and `answer`; `kinds` where the claim holds; `path`, `letters` and `owned` where a path
-/// says otherwise; and `mode`: the mode, or `disabled`, of who is there.
+/// As records the lines are of the kind `paths`, with the members `who` and `answer`; `kinds` where the claim holds; `path`, `letters` and `owned`
+/// where a path breaks it; and `mode`: the mode, or `disabled`, of who exists.
 ///
 /// # Errors
 ///
 /// - `Unreadable` with the first folder or file that can't be read.
 /// - `TooMany` where there are more than 65,536 files and folders.
-/// - `BadQuestion` where the words ask nothing, or a rule with the pattern is refused.
+/// - `BadQuestion` where the words make no question, or a rule with the pattern is refused.
 /// - `NoMemory` where memory ran out.
 pub fn paths_folder<F: Folders, D: FileSystem>(
     teller: Teller,

@@ -13,7 +13,7 @@ use aa_text_files::Files;
 use aatry_abstractions::{copied, only_profile, push_preamble, put};
 use std::alloc::{AllocError, Global};
 
-// Whether a text can stand in quotes: it has none, and no line feed.
+// Whether a text can be written in quotes: it has none, and no line feed.
 fn can_stand(pattern: &[u8]) -> bool
     ensures { result ≡ can_stand pattern.now }
 {
@@ -27,7 +27,7 @@ fn asked_name(alloc: Global) -> Result<Vec<u8>, AllocError>
     Vec::from_slice(alloc, b"asked//profile")
 }
 
-// The text of a file of one profile with one rule, which is on the files of a pattern, behind the folder's variables.
+// The text of a file of one profile with one rule, which is on the files of a pattern, after the folder's variables.
 fn asked_text(alloc: Global, files: &Files, pattern: &[u8]) -> Result<Vec<u8>, AllocError>
     ensures { IfOk result (λ text. text.items ≡ asked_text files.now pattern.now) }
 {
@@ -39,7 +39,7 @@ fn asked_text(alloc: Global, files: &Files, pattern: &[u8]) -> Result<Vec<u8>, A
     Ok(text)
 }
 
-// The files of a folder, with the one in which the pattern is read behind them.
+// The files of a folder, followed by the one in which the pattern is read.
 #[tactic(auto, unfolding(crate::specs::Patterns::with_asked))]
 fn with_asked(alloc: Global, files: &Files, pattern: &[u8]) -> Result<Files, AllocError>
     ensures { IfOk result (λ made. made ≡ with_asked files.now pattern.now) }
@@ -50,7 +50,7 @@ fn with_asked(alloc: Global, files: &Files, pattern: &[u8]) -> Result<Files, All
     Ok(made)
 }
 
-// Appends the pattern of a rule to others, if it is one on files.
+// Appends the pattern of a rule to `out`, if it is one on files.
 fn push_pattern(alloc: Global, rule: &Rule, out: &mut Vec<Pattern>) -> Result<(), AllocError>
     ensures { OnOk result (out.new.items ≡ out.old.items ++ file_patterns (rule.now ∷ [])) }
 {
@@ -73,7 +73,7 @@ fn patterns_of(alloc: Global, rules: &[Rule]) -> Result<Vec<Pattern>, AllocError
     Ok(patterns)
 }
 
-// Those of a profile, if there is one.
+// The patterns of the rules on files of a profile, if there is one.
 fn patterns_by(alloc: Global, profile: Option<Profile>) -> Result<Option<Vec<Pattern>>, AllocError>
     ensures { IfOk result (λ found. option_map (λ patterns. patterns.items) found ≡ patterns_by profile) }
 {
@@ -105,7 +105,7 @@ fn asked_profile(
 }
 
 /// The patterns that the pattern of a question stands for: those of a rule with it in a file of the folder that begins with the folder's variables
-/// (`include <tunables/global>`), if it has some. None where such a rule is refused, or the pattern has a quote or a line feed.
+/// (`include <tunables/global>`), if it has some. `None` where such a rule is refused, or the pattern has a quote or a line feed.
 ///
 /// # Errors
 ///

@@ -1,4 +1,4 @@
-//! What is told of those who are asked about, in sentences.
+//! The sentences on who is asked about.
 
 ghost use Rattle.std.specs.Prelude.{◌≡◌, ◌++◌, OnOk};
 ghost use Rattle.aa_explain_paths.specs.Answers.{seen_breaking};
@@ -12,7 +12,7 @@ use aa_explain_paths::{Breaking, Claim, PathAnswer};
 use aatry_report::{push_number, push_shown};
 use std::alloc::AllocError;
 
-// The word of an answer where what is claimed holds.
+// The word of an answer where the claim holds.
 fn claim_word(claim: Claim) -> &'static str
     ensures { result.now ≡ claim_word claim }
 {
@@ -22,7 +22,7 @@ fn claim_word(claim: Claim) -> &'static str
     }
 }
 
-// The word of what the rules say.
+// The word of the rules' answer.
 fn rules_word(claim: Claim, answer: &PathAnswer) -> &'static str
     ensures { result.now ≡ rules_word claim answer.now }
 {
@@ -50,7 +50,7 @@ pub fn owner_word(owned: bool) -> &'static str
     if owned { "owner" } else { "other" }
 }
 
-// What stands between letters, where what is claimed holds.
+// The words between letters, where the claim holds.
 fn holds_between(claim: Claim) -> &'static str
     ensures { result.now ≡ holds_between claim }
 {
@@ -60,7 +60,7 @@ fn holds_between(claim: Claim) -> &'static str
     }
 }
 
-// Which paths are meant there.
+// The words on which paths are meant, where the claim holds.
 fn holds_which(claim: Claim) -> &'static str
     ensures { result.now ≡ holds_which claim }
 {
@@ -70,7 +70,7 @@ fn holds_which(claim: Claim) -> &'static str
     }
 }
 
-// Appends the sentence where what is claimed holds to a text.
+// Appends the sentence where the claim holds to a text.
 #[tactic(auto, unfolding(crate::specs::Sentences::holds_sentence))]
 fn push_holds(
     claimed: Claimed<'_>,
@@ -90,7 +90,7 @@ fn push_holds(
     Ok(())
 }
 
-// What a path that says otherwise lets, or doesn't let.
+// The words on what a path that breaks the claim allows, or doesn't allow.
 fn breaking_may(claim: Claim) -> &'static str
     ensures { result.now ≡ breaking_may claim }
 {
@@ -100,7 +100,7 @@ fn breaking_may(claim: Claim) -> &'static str
     }
 }
 
-// What stands between its letters.
+// The words between its letters.
 fn breaking_between(claim: Claim) -> &'static str
     ensures { result.now ≡ breaking_between claim }
 {
@@ -110,7 +110,7 @@ fn breaking_between(claim: Claim) -> &'static str
     }
 }
 
-// Appends the sentence on a path that says otherwise to a text.
+// Appends the sentence on a path that breaks the claim to a text.
 #[tactic(auto, unfolding(crate::specs::Sentences::breaking_sentence))]
 fn push_breaking(
     claim: Claim,
@@ -131,7 +131,7 @@ fn push_breaking(
     Ok(())
 }
 
-// Appends the sentence of what rules say to a text.
+// Appends the sentence on the rules' answer to a text.
 #[tactic(auto, unfolding(crate::specs::Sentences::rules_sentence))]
 fn push_by_rules(
     claimed: Claimed<'_>,

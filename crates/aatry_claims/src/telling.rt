@@ -1,4 +1,4 @@
-//! What is told of those who are asked about.
+//! The report on who is asked about.
 
 ghost use Rattle.std.specs.Prelude.{◌≡◌, ◌++◌, IfOk, OnOk, map, option_map};
 ghost use Rattle.aa_explain_paths.specs.Answers.{seen_breaking};
@@ -24,7 +24,7 @@ use aatry_report::{Form, Record, Teller};
 use aatry_why_lines::{WrittenRules, push_why};
 use std::alloc::{AllocError, Global};
 
-// The mode in a word, or that somebody is disabled.
+// The mode in a word, or `disabled`.
 fn mode_word(mode: Option<Mode>) -> &'static str
     ensures { result.now ≡ mode_word mode }
 {
@@ -36,7 +36,7 @@ fn mode_word(mode: Option<Mode>) -> &'static str
     }
 }
 
-// Puts a path that says otherwise into a record.
+// Puts a path that breaks the claim into a record.
 fn put_breaking(alloc: Global, breaking: &Breaking, into: &mut Record) -> Result<(), AllocError>
     ensures { OnOk result (seen_record into.new ≡ with_breaking (seen_breaking breaking.now) (seen_record into.old)) }
 {
@@ -47,7 +47,7 @@ fn put_breaking(alloc: Global, breaking: &Breaking, into: &mut Record) -> Result
     into.put_text(alloc, "owned", owner_word(breaking.owned).as_bytes())
 }
 
-// Puts what rules say into a record: how many kinds of paths were looked at, where what is claimed holds.
+// Puts the rules' answer into a record: how many kinds of paths were looked at, where the claim holds.
 fn put_answer(alloc: Global, answer: &PathAnswer, into: &mut Record) -> Result<(), AllocError>
     ensures { OnOk result (seen_record into.new ≡ with_answer answer.now (seen_record into.old)) }
 {
@@ -58,7 +58,7 @@ fn put_answer(alloc: Global, answer: &PathAnswer, into: &mut Record) -> Result<(
     }
 }
 
-// The same, where they are asked.
+// Puts the rules' answer into a record, where there is one.
 fn put_finding(alloc: Global, finding: &Finding, into: &mut Record) -> Result<(), AllocError>
     ensures { OnOk result (seen_record into.new ≡ with_finding finding.now (seen_record into.old)) }
 {
@@ -78,7 +78,7 @@ fn put_mode(alloc: Global, part: Option<&Part<'_>>, into: &mut Record) -> Result
     }
 }
 
-// The record of who was asked about.
+// The record on who was asked about.
 #[tactic(auto, unfolding(crate::specs::Telling::found_record))]
 fn found_record(
     alloc: Global,
@@ -99,7 +99,7 @@ fn found_record(
     Ok(made)
 }
 
-// Appends what is told of who was asked about to a text.
+// Appends the line or record on who was asked about to a text.
 fn push_found(
     teller: Teller,
     claimed: Claimed<'_>,
@@ -129,7 +129,7 @@ fn written_of<'a>(below: PolicyFiles<'a>, part: &Part<'a>) -> WrittenRules<'a>
     }
 }
 
-// Whether something isn't let that is claimed to be.
+// Whether the claim is that something is allowed, so that a path that breaks it lacks a rule.
 fn is_lacking(claim: Claim) -> bool
     ensures { result ≡ is_lacking claim }
 {
@@ -139,7 +139,7 @@ fn is_lacking(claim: Claim) -> bool
     }
 }
 
-// Appends the rules of a part behind a path that says otherwise to a text.
+// Appends the rules of a part that decide a path that breaks the claim to a text.
 fn push_asked_rules(
     teller: Teller,
     below: PolicyFiles<'_>,
@@ -162,7 +162,7 @@ fn push_asked_rules(
     Ok(())
 }
 
-// The same, where they are asked.
+// Appends the rules of a part that decide a path that breaks the claim to a text, where its rules decide.
 fn push_breaking_rules(
     teller: Teller,
     below: PolicyFiles<'_>,
@@ -180,7 +180,7 @@ fn push_breaking_rules(
     push_asked_rules(teller, below, claim, part, breaking, out)
 }
 
-// The same, if there is such a path of a part.
+// Appends the rules that decide to a text, if there is a path of a part that breaks the claim.
 fn push_rules(
     teller: Teller,
     below: PolicyFiles<'_>,
@@ -201,7 +201,7 @@ fn push_rules(
     }
 }
 
-// Appends what is told of who was asked about to a text, with the rules, unless names alone are to be told.
+// Appends the report on who was asked about to a text, with the rules, unless only names are reported.
 fn push_told(
     teller: Teller,
     names: bool,
@@ -227,8 +227,8 @@ fn push_told(
     )
 }
 
-/// Appends what is told of all who were asked about to a text: a line for each, or a record, and below it the rules behind a path that says otherwise, as
-/// `aatry_why_lines::push_why` tells them, unless names alone are to be told.
+/// Appends the report on all who were asked about to a text: a line for each, or a record, and below it the rules that decide a path that breaks the
+/// claim, as `aatry_why_lines::push_why` appends them, unless only names are reported.
 ///
 /// # Errors
 ///
@@ -252,7 +252,7 @@ pub fn push_all(
     Ok(())
 }
 
-/// Whether what is claimed is refuted: somebody says otherwise, or isn't there.
+/// Whether the claim is refuted: a name breaks it, or doesn't exist.
 pub fn is_refuted(found: &[Found<'_>]) -> bool
     ensures { result ≡ is_refuted (map seen_found found.now) }
 {
@@ -266,7 +266,7 @@ pub fn is_refuted(found: &[Found<'_>]) -> bool
     false
 }
 
-/// Whether nothing is known of somebody.
+/// Whether the claim is undecided for a name.
 pub fn has_undecided(found: &[Found<'_>]) -> bool
     ensures { result ≡ has_undecided (map seen_found found.now) }
 {

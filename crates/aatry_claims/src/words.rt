@@ -7,7 +7,7 @@ use aa_explain_paths::Whose;
 use aa_profile_data::Perms;
 use bitflags::Flags;
 
-/// What the words of a question about all paths say.
+/// The words of a question about all paths, as read.
 #[derive(Clone, Copy)]
 pub struct PathWords<'a> {
     /// The letters that are asked for.
@@ -31,7 +31,7 @@ fn letter_of(letter: u8) -> Option<Perms>
     }
 }
 
-// A set with a letter more, if that isn't in it already.
+// A set with one letter more, if that isn't in it already.
 fn with_letter(set: Perms, letter: u8) -> Option<Perms>
     ensures { option_map (λ p. p.0) result ≡ with_letter set.0 letter }
 {
@@ -42,7 +42,7 @@ fn with_letter(set: Perms, letter: u8) -> Option<Perms>
     Some(set.union(letter))
 }
 
-/// The letters of a word: at least one, each known and none twice.
+/// The letters of a word: at least one, each known and none twice; else `None`.
 pub fn letters_of(word: &[u8]) -> Option<Perms>
     ensures { option_map (λ p. p.0) result ≡ letters_of word.now }
 {
@@ -73,8 +73,8 @@ pub fn whose_of(word: &[u8]) -> Option<Whose>
     }
 }
 
-/// What words say that ask about all paths: the letters of `r w a l k m x` that are asked for, whose files are meant, `owner`, `other` or `any`, a pattern,
-/// and the full names of those who are asked about. None where they say no such thing. It takes no memory.
+/// The words of a question about all paths: the letters of `r w a l k m x` that are asked for, whose files are meant, `owner`, `other` or `any`, a
+/// pattern, and the full names of those who are asked about. `None` where the words make no such question. It takes no memory.
 pub fn path_words<'a>(words: &'a [&'a [u8]]) -> Option<PathWords<'a>>
     ensures { option_map seen_words result ≡ path_words (map (λ word. word.now) words.now) }
 {

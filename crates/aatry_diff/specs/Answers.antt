@@ -1,5 +1,5 @@
--- The answer of a policy set to a question, as it is told where two policy sets are compared: what is told of it (docs/commands.md, "Questions"). The
--- line that logs it doesn't make it another one.
+-- The answer of a policy set to a question, as it is printed where two policy sets are compared: its text (docs/commands.md, "Questions"). The line
+-- that logs it doesn't make it another one.
 use Rattle.std.specs.Prelude.{ℕ, List, Result, Ok, Err, codes}
 use Rattle.aa_decide_ready.specs.Entries.{Loaded}
 use Rattle.aa_set_answers.specs.Answers.{answered}
@@ -7,11 +7,11 @@ use Rattle.aa_set_answers.specs.declared.answers.Answered.{Answered}
 use Rattle.aa_set_commands.specs.Question.{Question}
 use Rattle.aa_set_commands.specs.declared.refusal.Refusal.{Refusal}
 
--- what stands in place of an answer where who asks isn't there: this is the only refusal of a question
+-- the text in place of an answer where the asker doesn't exist: this is the only refusal of a question
 abbrev pub absent : List ℕ
 absent = codes "absent"
 
--- what is told of an answer, if there is one
+-- the text of an answer, if there is one
 abbrev pub answer_of : Result Answered Refusal → List ℕ
 answer_of (Ok told) = told.text
 answer_of (Err refusal) = absent

@@ -1,4 +1,4 @@
--- What a comparison of two folders of policy on a disk comes to.
+-- The outcome of a comparison of two folders of policy on disk.
 use Rattle.std.specs.Prelude.{◌≡◌, ℕ, Bool, false, List, [], ◌∷◌, Option, None, Some}
 use Rattle.aa_profile_parsing.specs.declared.language.Language.{Language}
 use Rattle.aa_text_files.specs.Files.{File, bytes_at}
@@ -19,12 +19,12 @@ use Rattle.aatry_requests.specs.Gathering.{Gathered, gathered}
 use Rattle.aatry_requests.specs.declared.sources.Source.{Source}
 use Rattle.aatry_requests.specs.declared.sources.Source.TheVariants.{Log, Questions}
 
--- of which form a source of requests is
+-- the form of a source of requests
 abbrev pub form_of : SourceAsked → Source
 form_of (LogAt path) = Log
 form_of (QuestionsAt path) = Questions
 
--- and its path
+-- the path of a source of requests
 abbrev pub path_of : SourceAsked → List ℕ
 path_of (LogAt path) = path
 path_of (QuestionsAt path) = path
@@ -33,15 +33,14 @@ path_of (QuestionsAt path) = path
 abbrev pub IsPlainAt : Known → List ℕ → List File → Type 0
 IsPlainAt known path files = IsFileAt known path files × (is_compressed (bytes_at files 0) ≡ false)
 
--- What a source of requests tells of is gathered from the file at its path, which gzip didn't write; where there is no source, nothing is.
+-- The requests of a source are gathered from the file at its path, which gzip didn't write; where there is no source, nothing is.
 abbrev pub IsGathered : Known → Option SourceAsked → Option Gathered → Type 0
 IsGathered known None requests = requests ≡ None
 IsGathered known (Some source) requests =
     (bytes : List ℕ) × IsPlainAt known (path_of source) ((path_of source, bytes) ∷ []) × (requests ≡ Some (gathered (form_of source) bytes))
 
--- The two folders, each with all that lies below it and both by one language, were compared, by what the file of requests tells of too, if there is
--- one: the text tells how they differ, and it is noted how many files of each are left out. One failed where something differs, or a file is newly
--- left out.
+-- The two folders, each with all that lies below it and both by one language, were compared, by the file of requests too, if there is one: the text
+-- reports how they differ, and it is noted how many files of each are left out. One failed where something differs, or a file is newly left out.
 pub record IsComparedBelow
     (form : Form) (verbose : Bool) (language : Language) (folders : ToldFolders) (known : Known) (asked : ComparisonAsked) (report : Report) : Type 0 where
   pub old_files : List File

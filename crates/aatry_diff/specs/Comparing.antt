@@ -1,4 +1,4 @@
--- What is told of two folders of policy that are compared (docs/aatry.md).
+-- The report on two folders of policy that are compared (docs/aatry.md).
 use Rattle.std.specs.Prelude.{ℕ, Bool, ◌==◌, ◌&&◌, if◌then◌else◌, List, ◌++◌, Option}
 use Rattle.aa_bytes.specs.Texts.{is_empty}
 use Rattle.aatry_changes.specs.Changes.{change_lines}
@@ -17,12 +17,12 @@ use Rattle.aatry_uncertain.specs.LeftOutHeads.{LeftOutHead, heads_left_out}
 abbrev pub both : Folder → Folder → BothFolders
 both old new = record { old = by_parts old; new = by_parts new }
 
--- what is told of their profiles, children and hats, where files with these heads are left out of the new one: how much of each differs where that is
--- asked, and else what does
+-- the report on their profiles, children and hats, where files with these heads are left out of the new one: how much of each differs if only counts
+-- are reported, and else what differs
 abbrev pub parts_text : Form → Bool → List LeftOutHead → FolderParts → FolderParts → List ℕ
 parts_text form stat heads old new = if stat then stat_lines form heads old new else change_lines form heads old new
 
--- what is told of two folders: the files that are left out, at length or not, those that are so newly, the profiles, children and hats that are gone,
+-- the report on two folders: the files that are left out, verbose or not, the newly left-out ones, the profiles, children and hats that are gone,
 -- changed or new, and the requests
 abbrev pub diff_text : Form → (verbose stat : Bool) → Folder → Folder → Option Gathered → List ℕ
 diff_text form verbose stat old new requests =
@@ -30,7 +30,7 @@ diff_text form verbose stat old new requests =
     ++ parts_text form stat (heads_left_out new) (by_parts old) (by_parts new)
     ++ requests_text form stat (both old new) (policy_in old) (policy_in new) requests
 
--- what is noted of them: how many files of each are left out
+-- the notes on them: how many files of each are left out
 abbrev pub diff_notes : Folder → Folder → List ℕ
 diff_notes old new = left_out_note old ++ left_out_note new
 
@@ -38,6 +38,6 @@ diff_notes old new = left_out_note old ++ left_out_note new
 abbrev pub are_alike : Folder → Folder → Option Gathered → Bool
 are_alike old new requests = changed_count (by_parts old) (by_parts new) == 0 && differing_count (policy_in old) (policy_in new) requests == 0
 
--- The new folder can take the place of the old one: they are alike, and no file is newly left out, of which nothing is known here.
+-- The new folder can replace the old one: they are alike, and no file is newly left out, of which nothing is known here.
 abbrev pub is_unchanged : Folder → Folder → Option Gathered → Bool
 is_unchanged old new requests = is_empty (newly_left_out old new) && are_alike old new requests

@@ -9,7 +9,7 @@ use Rattle.aatry_folder.specs.Unread.{IsOfFile, IsOfFolder}
 use Rattle.aatry_folder.specs.declared.fault.Fault.{Fault}
 use Rattle.aatry_logs.specs.Compressed.{IsNamedCompressed, is_compressed}
 
--- a fault tells the path of a file that gzip wrote
+-- a fault has the path of a file that gzip wrote
 abbrev pub IsOfCompressedAt : Known → List ℕ → Fault → Type 0
 IsOfCompressedAt known path fault =
     IsNamedCompressed (Some path) fault

@@ -21,7 +21,7 @@ seen_folders folders = record { old = seen_folder folders.old; new = seen_folder
 abbrev pub left_out_loaded : LoadedFolder → List LeftOut
 left_out_loaded loaded = left_out_of (file_names (map seen_top loaded.folder.now.top.items)) loaded.policy.outcomes.items
 
--- and those that are newly left out
+-- the newly left-out files
 abbrev pub newly_loaded : LoadedFolder → LoadedFolder → List LeftOut
 newly_loaded old new = newly (left_out_loaded old) (left_out_loaded new)
 
@@ -32,6 +32,6 @@ seen_loaded loaded = record {
   parts = set_parts loaded.policy.manager.machine.now loaded.policy.origins.items;
 }
 
--- two of these
+-- two folders by the parts of what is loaded of them
 abbrev pub both_loaded : LoadedFolder → LoadedFolder → BothFolders
 both_loaded old new = record { old = seen_loaded old; new = seen_loaded new }

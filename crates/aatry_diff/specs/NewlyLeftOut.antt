@@ -14,7 +14,7 @@ has_name (file ∷ files) name = bytes_eq file.name name || has_name files name
 abbrev pub newly_if : List LeftOut → LeftOut → List LeftOut
 newly_if old file = if has_name old file.name then [] else file ∷ []
 
--- those of the new ones
+-- the new files of which none has the name of an old one
 abbrev pub newly : List LeftOut → List LeftOut → List LeftOut
 newly old new = flat_map (newly_if old) new
 
@@ -22,10 +22,10 @@ newly old new = flat_map (newly_if old) new
 abbrev pub newly_left_out : Folder → Folder → List LeftOut
 newly_left_out old new = newly (files_left_out old) (files_left_out new)
 
--- the words that tell such a file
+-- the words for such a file
 abbrev pub newly_words : LeftOutWords
 newly_words = record { kind = codes "newly_left_out"; before = codes "newly left out: "; behind = codes ": " }
 
--- what is told of such files of a folder
+-- the report on such files of a folder
 abbrev pub newly_lines : Form → Folder → List LeftOut → List ℕ
 newly_lines form folder files = told_files form newly_words folder.language folder.base folder.files folder.unread files

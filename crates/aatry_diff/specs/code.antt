@@ -1,3 +1,3 @@
--- What is about the code: requests by the file that tells of them, and what is found of each question in turn, and told of folders by that.
+-- Definitions about the code: requests by their file, and what is found of each question in turn, and the report on folders by that.
 pub mod Requests
 pub mod Steps

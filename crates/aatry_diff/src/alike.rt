@@ -13,10 +13,10 @@ use aa_explain::{policies_alike_decide_alike, who_has_a_full_name};
 use aa_explain_diff::sections_alike_answer_alike;
 use aatry_policy::{what_folders_load, which_rules_parts_have};
 
-/// Where two folders are alike, their policy sets are: by each full name both have a profile, child or hat, and these are confined alike and attached
-/// to the same patterns, or neither has one. And no question is answered otherwise, whoever asks and whatever is asked: the answer, what is told of
-/// it, which names the profile, child, hat or stack under which a program runs, and the line that logs it are the same. The path of a program that is
-/// started is a list of bytes.
+/// Where two folders are alike, their policy sets are: for each full name both have a profile, child or hat, and these are confined alike and attach
+/// by the same patterns, or neither has one. And no question is answered otherwise, whoever the asker is and whatever is asked: the answer, its
+/// text, which names the profile, child, hat or stack under which a program runs, and the line that logs it are the same. The path of a program that
+/// is started is a list of bytes.
 pub fn alike_folders_answer_alike()
     ensures policies { (old new : Folder) (requests : Option Gathered)
         → are_alike old new requests ≡ true

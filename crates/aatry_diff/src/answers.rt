@@ -9,8 +9,8 @@ use aa_set_commands::{Question, RefusalKind};
 use aa_set_manager::Manager;
 use std::alloc::{AllocError, Global};
 
-/// The answer of a policy set to a question, as it is told, or `absent` where who asks isn't there. What the policy set remembers of the question changes
-/// nothing.
+/// The answer of a policy set to a question, as it is printed, or `absent` where the asker doesn't exist. What the policy set remembers of the
+/// question doesn't change its answers.
 ///
 /// # Errors
 ///

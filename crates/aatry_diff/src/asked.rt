@@ -1,4 +1,4 @@
-//! What two policy sets are asked, and what they answer otherwise.
+//! What two policy sets are asked, and which answers differ.
 
 ghost use Rattle.std.specs.Prelude.{◌≡◌, ◌++◌, IfOk, OnOk, option_map};
 ghost use Rattle.aatry_diff.specs.Folders.{seen_folders};
@@ -15,12 +15,12 @@ use aatry_report::Teller;
 use aatry_requests::{Requests, Source, gather};
 use std::alloc::{AllocError, Global};
 
-/// What two policy sets are asked, and what they answer otherwise.
+/// What two policy sets are asked, and which answers differ.
 #[derive(Clone, Copy)]
 pub struct Asked<'a> {
-    /// The requests; none where there is no source of them.
+    /// The requests; `None` where there is no source of them.
     pub requests: &'a Option<Requests<'a>>,
-    /// Those of their questions that are answered otherwise, in order.
+    /// Those of their questions whose answers differ, in order.
     pub differences: &'a [Difference<'a, 'a>],
 }
 
@@ -41,7 +41,7 @@ pub fn requests_of<'a>(
     }
 }
 
-/// What an old and a new policy set answer otherwise of the questions of requests, if there are some (`find_differences`).
+/// The questions of requests whose answers differ between an old and a new policy set, if there are requests (`find_differences`).
 ///
 /// # Errors
 ///
@@ -63,7 +63,7 @@ pub fn differences_of<'t, 'a>(
     }
 }
 
-// Appends what sums up to a text, by how many questions are answered otherwise, if there are requests.
+// Appends the summary to a text, by how many answers differ, if there are requests.
 fn push_summary_of(
     teller: Teller,
     requests: &Option<Requests<'_>>,
@@ -78,7 +78,7 @@ fn push_summary_of(
     }
 }
 
-// Appends what is told of each question that is answered otherwise to a text, unless it is asked how much differs.
+// Appends each question whose answers differ to a text, unless only counts are reported.
 fn push_differences_unless(
     teller: Teller,
     stat: bool,
@@ -95,8 +95,8 @@ fn push_differences_unless(
     push_differences(teller, folders, differences, out)
 }
 
-/// Appends what is told of requests to a text: each question that is answered otherwise (`push_differences`), unless it is asked how much differs
-/// (`stat`), and what sums up (`push_summary`). Where there is no source of requests, that is nothing.
+/// Appends the report on requests to a text: each question whose answers differ (`push_differences`), unless only counts are reported (`stat`), and
+/// the summary (`push_summary`). It is empty where there is no source of requests.
 ///
 /// # Errors
 ///

@@ -1,4 +1,4 @@
-//! Two folders of policy on a disk, compared.
+//! Two folders of policy on disk, compared.
 
 ghost use Rattle.std.specs.Prelude.{◌≡◌, IfErr, IfOk, option_map, string_bytes};
 ghost use Rattle.aatry_arguments.specs.Given.{meant_comparison, meant_source};
@@ -19,7 +19,7 @@ use aatry_report::Teller;
 use aatry_requests::Source;
 use std::alloc::Global;
 
-// Of which form a source of requests is.
+// The form of a source of requests.
 fn form_of(source: &RequestSource) -> Source
     ensures { result ≡ form_of (meant_source source.now) }
 {
@@ -39,7 +39,7 @@ fn path_of(source: RequestSource) -> String
     }
 }
 
-// The file of this path, unless gzip wrote it, whose bytes are no lines.
+// The file of this path, unless gzip wrote it: its bytes are no lines then.
 fn plain_at<D: FileSystem>(alloc: Global, disk: &D, path: String) -> Result<Files, Fault>
     ensures found { IfOk result (IsPlainAt (D.known disk.now) (string_bytes path)) }
     ensures fault { IfErr result (IsOfPlain (D.known disk.now) (string_bytes path)) }
@@ -51,7 +51,7 @@ fn plain_at<D: FileSystem>(alloc: Global, disk: &D, path: String) -> Result<File
     Ok(file)
 }
 
-// The file at the path of a source of requests, with the form of the source; nothing where there is none.
+// The file at the path of a source of requests, with the form of the source; `None` where there is none.
 fn requests_at<D: FileSystem>(
     alloc: Global,
     disk: &D,
@@ -80,15 +80,16 @@ fn source_of(found: &Option<(Source, Files)>) -> Option<(Source, &[u8])>
     }
 }
 
-/// Compares two folders of policy, both by one language, and by the requests of a log or the questions of a file too, where one is given: reads each
-/// folder as `aatry_folder::policy_below` does. Told are the files of either that are left out, where they are told, with a note on how many they
-/// are; those that are so newly; the profiles, children and hats that are gone, changed or new, with what differs of them
-/// (`aatry_changes::push_changes`); and what the folders answer otherwise, and what sums up. One failed where something differs, a profile, child or
-/// hat, or an answer; or where a file is newly left out.
+/// Compares two folders of policy, both by one language, and by the requests of a log or the questions of a file too, where one is given. Each
+/// folder is read as by `aatry_folder::policy_below`. The report has the files of either that are left out, where these are reported, with a note
+/// on how many they are; the newly left-out ones; the profiles, children and hats that are gone, changed or new, with their differences
+/// (`aatry_changes::push_changes`); the answers that differ, and a summary. One failed where something differs, a profile, child or hat, or an
+/// answer; or where a file is newly left out.
 ///
 /// # Errors
 ///
-/// - `Unreadable` with the first folder or file below the old folder that can't be read, or else below the new one, or else the log or the file of questions.
+/// - `Unreadable` with the first folder or file below the old folder that can't be read, or else below the new one, or else the log or the file of
+///   questions.
 /// - `Compressed` with the path of the log or the file of questions, where gzip wrote it.
 /// - `TooMany` where there are more than 65,536 files and folders below one of them.
 /// - `NoMemory` where memory ran out.

@@ -1,4 +1,4 @@
-//! Two folders of policy, compared by their profiles and by what they answer.
+//! Two folders of policy, compared by their profiles and by their answers.
 
 ghost use Rattle.std.specs.Prelude.{◌≡◌, ◌++◌, ◌&&◌, IfOk, OnOk, option_map};
 ghost use Rattle.aa_bytes.specs.Texts.{is_empty};
@@ -27,7 +27,8 @@ use aatry_requests::{Requests, Source};
 use aatry_uncertain::{LeftOutHeads, heads_left_out};
 use std::alloc::{AllocError, Global};
 
-// Appends how much of each profile, child and hat differs to a text, where that is asked, and else what does; and says of how many something does.
+// Appends how much of each profile, child and hat differs to a text, if only counts are reported, and else what differs; returns in how many
+// something does.
 fn push_parts(
     teller: Teller,
     stat: bool,
@@ -45,7 +46,7 @@ fn push_parts(
     }
 }
 
-// Appends how two folders differ to a text, by what they are asked and answer otherwise, and says whether nothing does.
+// Appends the report on how two folders differ to a text, by what they are asked and which answers differ, and returns whether nothing does.
 #[tactic(auto, unfolding(crate::specs::code::Steps::compared_text))]
 fn push_compared(
     teller: Teller,
@@ -70,7 +71,7 @@ fn push_compared(
     Ok(changed == 0 && asked.differences.is_empty())
 }
 
-// The same, with what can be read of the files that are left out of the new folder.
+// Appends the report on how two folders differ to a text, with what can be read of the files that are left out of the new folder.
 fn push_with_left_out(
     teller: Teller,
     stat: bool,
@@ -88,7 +89,7 @@ fn push_with_left_out(
     push_compared(teller, stat, &left_out, folders, asked, out)
 }
 
-// The same of folders that are loaded.
+// Appends the report on how two loaded folders differ to a text.
 fn push_loaded(
     teller: Teller,
     stat: bool,
@@ -113,7 +114,7 @@ fn push_loaded(
     push_with_left_out(teller, stat, new, &folders, asked, out)
 }
 
-// The same of folders that are loaded, by requests: first they are asked, and then what they have is told.
+// Appends the report on how two loaded folders differ to a text, by requests: these are asked first, and then the differences are appended.
 fn push_both(
     teller: Teller,
     stat: bool,
@@ -141,7 +142,8 @@ fn push_both(
     push_loaded(teller, stat, old, new, &asked, out)
 }
 
-// The same, with the files that are newly left out before it; and says whether there are none, and nothing differs.
+// Appends the report on how two loaded folders differ to a text, after the newly left-out files; returns whether there are none, and nothing
+// differs.
 fn push_all(
     teller: Teller,
     stat: bool,
@@ -163,7 +165,7 @@ fn push_all(
     Ok(none && alike)
 }
 
-// How two folders of policy differ, by requests, if there are some.
+// The report on how two folders of policy differ, by requests, if there are some.
 fn compare(
     teller: Teller,
     stat: bool,
@@ -192,11 +194,12 @@ fn compare(
     Ok(report)
 }
 
-/// How two folders of policy that were read differ, told in a form. First come the files of either that are left out, where they are told, and it is
-/// noted how many they are (`aatry_policy::load_folder`). Then come those that are left out of the new one and not of the old one, by their names
-/// (`push_newly`); the profiles, children and hats that are gone, unread, changed or new, with what differs of them (`aatry_changes::push_changes`), or with how
-/// much does, where that is asked (`stat`; `aatry_changes::push_stat`); and where a log or a file of questions is given, by its kind and its bytes, what
-/// the folders answer otherwise (`push_differences`), unless `stat` is asked, and what sums up (`push_summary`). One failed where something differs, a profile, child or hat, or an answer; or where a file is newly left out, of which nothing
+/// The report on how two folders of policy that were read differ, in a form. First come the files of either that are left out, where these are
+/// reported, and it is noted how many they are (`aatry_policy::load_folder`). Then come those that are left out of the new one and not of the old
+/// one, by their names (`push_newly`); the profiles, children and hats that are gone, unread, changed or new, with their differences
+/// (`aatry_changes::push_changes`), or with how much differs, if only counts are reported (`stat`; `aatry_changes::push_stat`); and where a log or a
+/// file of questions is given, by its kind and its bytes, the answers that differ (`push_differences`), unless `stat` is set, and the summary
+/// (`push_summary`). One failed where something differs, a profile, child or hat, or an answer; or where a file is newly left out, of which nothing
 /// is known. Each file of the folders is read once.
 ///
 /// # Errors

@@ -1,4 +1,4 @@
-//! What is told of questions that two policy sets answer otherwise.
+//! The report on questions whose answers differ between two policy sets.
 
 ghost use Rattle.std.specs.Prelude.{◌≡◌, ◌++◌, IfOk, OnOk};
 ghost use Rattle.aa_set_commands.specs.Question.{seen_question};
@@ -17,7 +17,7 @@ use aatry_requests::{push_number, push_question, rule_request, who_asks};
 use aatry_shared::push_causes;
 use std::alloc::{AllocError, Global};
 
-// Appends how often a question came to a text.
+// Appends how often a question occurred to a text.
 fn push_times(out: &mut Vec<u8>, times: u64) -> Result<(), AllocError>
     ensures { OnOk result (out.new.items ≡ out.old.items ++ times_text times) }
 {
@@ -37,7 +37,7 @@ fn push_answer(out: &mut Vec<u8>, sign: &[u8], answer: &[u8]) -> Result<(), Allo
     out.extend_from_slice(answer)
 }
 
-// Appends the line of a question, its answers and how often it came to a text.
+// Appends the line of a question, its answers and how often it occurred to a text.
 fn push_line(out: &mut Vec<u8>, difference: &Difference<'_, '_>) -> Result<(), AllocError>
     ensures { OnOk result (out.new.items ≡ out.old.items ++ line_of (seen_difference difference.now)) }
 {
@@ -49,7 +49,7 @@ fn push_line(out: &mut Vec<u8>, difference: &Difference<'_, '_>) -> Result<(), A
     Ok(())
 }
 
-// A question as it is told.
+// A question as it is printed.
 fn question_text(alloc: Global, question: &Question<'_>) -> Result<Vec<u8>, AllocError>
     ensures { IfOk result (λ text. text.items ≡ question_text (seen_question question.entry.now)) }
 {
@@ -58,7 +58,7 @@ fn question_text(alloc: Global, question: &Question<'_>) -> Result<Vec<u8>, Allo
     Ok(text)
 }
 
-// Puts the answers to a question and how often it came into a record.
+// Puts the answers to a question and how often it occurred into a record.
 fn put_answers(
     alloc: Global,
     difference: &Difference<'_, '_>,
@@ -71,7 +71,7 @@ fn put_answers(
     into.put_number(alloc, "times", difference.tally.times as usize)
 }
 
-// The record of a question, its answers and how often it came.
+// The record of a question, its answers and how often it occurred.
 fn question_record(alloc: Global, difference: &Difference<'_, '_>) -> Result<Record, AllocError>
     ensures { IfOk result (λ made. seen_record made ≡ question_record (seen_difference difference.now)) }
 {
@@ -82,7 +82,7 @@ fn question_record(alloc: Global, difference: &Difference<'_, '_>) -> Result<Rec
     Ok(made)
 }
 
-// Appends what is told of a question by itself to a text.
+// Appends the line or record of a question to a text.
 fn push_told(
     teller: Teller,
     difference: &Difference<'_, '_>,
@@ -96,7 +96,7 @@ fn push_told(
     }
 }
 
-// Appends the rules that lead to one of the answers to a question alone to a text.
+// Appends the rules that lead to only one of the answers to a question to a text.
 fn push_causes_of(
     teller: Teller,
     folders: &BothFolders<'_>,
@@ -115,7 +115,7 @@ fn push_causes_of(
     )
 }
 
-// Appends what is told of a question that is answered otherwise to a text.
+// Appends the report on a question whose answers differ to a text.
 fn push_difference(
     teller: Teller,
     folders: &BothFolders<'_>,
@@ -128,14 +128,14 @@ fn push_difference(
     push_causes_of(teller, folders, &difference.tally.question.question(), out)
 }
 
-/// Appends what is told of each of some questions to a text that two policy sets answer otherwise: the question, the answer before and after, and how
-/// often it came. Behind it stand the rules that lead to one of the answers alone, as the folders have them that made the policy sets
-/// (`aatry_shared::push_causes`). That is a line, or a record of the kind `question` with the texts `question`, `before` and `after` and the
-/// number `times`.
+/// Appends each of some questions whose answers differ between two policy sets to a text: the question, the answer before and after, and how often
+/// it occurred. It is followed by the rules that lead to only one of the answers, as they are in the folders of the policy sets
+/// (`aatry_shared::push_causes`). That is a line, or a record of the kind `question` with the texts `question`, `before` and `after` and the number
+/// `times`.
 ///
 /// # Errors
 ///
-/// Where memory runs out. What is told of some questions may have been appended then.
+/// Where memory runs out. Some questions may have been appended then.
 pub fn push_differences(
     teller: Teller,
     folders: &BothFolders<'_>,

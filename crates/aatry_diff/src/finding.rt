@@ -1,4 +1,4 @@
-//! Questions that two policy sets answer otherwise.
+//! Questions whose answers differ between two policy sets.
 
 ghost use Rattle.std.specs.Prelude.{◌≡◌, ◌++◌, IfOk, OnOk, slice_get};
 ghost use Rattle.aatry_diff.specs.Differing.{differences};
@@ -12,18 +12,18 @@ use aa_set_manager::Manager;
 use aatry_requests::{Tallies, Tally};
 use std::alloc::{AllocError, Global};
 
-/// A question that two policy sets answer otherwise.
+/// A question whose answers differ between two policy sets.
 #[derive(Drop)]
 pub struct Difference<'t, 'a> {
-    /// The question, and how often it came.
+    /// The question, and how often it occurred.
     pub tally: &'t Tally<'a>,
-    /// What the old policy set answers.
+    /// The answer of the old policy set.
     pub before: Sequence<u8>,
-    /// What the new one answers.
+    /// The answer of the new one.
     pub after: Sequence<u8>,
 }
 
-// Appends a question with its answers to what is found, if two policy sets answer it otherwise.
+// Appends a question with its answers to the differences found, if the answers of two policy sets differ.
 fn push_difference<'t, 'a>(
     alloc: Global,
     old: &mut Manager,
@@ -50,7 +50,7 @@ fn push_difference<'t, 'a>(
     Ok(())
 }
 
-// The same of the question at a place, if there is one.
+// Appends the question at an index, if there is one, with its answers to the differences found, if these differ.
 fn push_difference_at<'t, 'a>(
     alloc: Global,
     old: &mut Manager,
@@ -70,8 +70,8 @@ fn push_difference_at<'t, 'a>(
     }
 }
 
-/// Asks an old and a new policy set the same questions, and gives those that they answer otherwise, in order, each with the answer before and after.
-/// What the policy sets remember of questions changes nothing of them.
+/// Asks an old and a new policy set the same questions, and returns those whose answers differ, in order, each with the answer before and after.
+/// What the policy sets remember of questions doesn't change their answers.
 ///
 /// # Errors
 ///

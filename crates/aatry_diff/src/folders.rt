@@ -7,6 +7,6 @@ use aatry_policy::FolderParts;
 pub struct BothFolders<'a> {
     /// The old one.
     pub old: FolderParts<'a>,
-    /// The one that is to take its place.
+    /// The new one.
     pub new: FolderParts<'a>,
 }

@@ -1,4 +1,4 @@
-//! What holds of what is told of two folders, as laws over the definitions that the calls are proved to follow.
+//! What holds of the report on two folders, as laws over the definitions that the calls are proved to follow.
 
 ghost use Rattle.std.specs.Prelude.{◌≡◌, ◌==◌, ◌&&◌, List, Option, length, true};
 ghost use Rattle.std.specs.List.{Contains};
@@ -21,14 +21,14 @@ ghost use Rattle.aatry_uncertain.specs.LeftOutHeads.{heads_left_out};
 
 use aatry_changes::{what_is_counted_is_told, what_is_not_told_answers_alike};
 
-/// Something is told of questions, in either form, exactly where two policy sets answer one of them otherwise.
+/// A question is reported, in either form, exactly where two policy sets answer it differently.
 pub fn what_differs_is_told()
     ensures { (form : Form) (folders : BothFolders) (old new : List Loaded) (tallies : List Tally)
         → is_empty (difference_lines form folders old new tallies) ≡ (length (differing old new tallies) == 0) }
 {}
 
-/// Two folders are alike, by which `aatry diff` has its exit status unless a file is newly left out, exactly where nothing is told of them but the
-/// files that are left out and what sums up: of no profile, child or hat, and of no question.
+/// Two folders are alike, by which `aatry diff` has its exit status unless a file is newly left out, exactly where the report on them has nothing
+/// but the files that are left out and the summary: no profile, child or hat, and no question.
 pub fn what_is_alike_is_not_told()
     ensures { (form : Form) (old new : Folder) (requests : Option Gathered)
         → are_alike old new requests
@@ -40,8 +40,8 @@ pub fn what_is_alike_is_not_told()
 }
 
 /// So where two folders are alike, each profile, child and hat of the old one has one of its full name in the new one that decides as it does,
-/// whatever is asked: it is in the same mode, no verdict is another one, and no line that logs one; and their rules say the same together of the
-/// start of a program.
+/// whatever is asked: it is in the same mode, no verdict differs, and no line that logs one; and their rules say the same together of the start of a
+/// program.
 pub fn what_alike_folders_answer()
     ensures { (old new : Folder) (requests : Option Gathered) (part : Part)
         → are_alike old new requests ≡ true

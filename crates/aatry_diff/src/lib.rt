@@ -1,4 +1,4 @@
-//! The command `diff`: two folders of policy, compared by their profiles and by what they answer to the same questions.
+//! The command `diff`: two folders of policy, compared by their profiles and by their answers to the same questions.
 #![tactic(auto)]
 
 mod alike;

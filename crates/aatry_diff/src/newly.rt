@@ -26,7 +26,7 @@ fn has_name(files: &[LeftOut<'_>], name: &str) -> bool
     false
 }
 
-// Appends a file to others, if none of its name is among the old ones.
+// Appends a file to `files`, if none of its name is among the old ones.
 fn push_if<'a>(
     old: &[LeftOut<'_>],
     file: LeftOut<'a>,
@@ -42,7 +42,7 @@ fn push_if<'a>(
     Ok(())
 }
 
-// Those files that are left out newly.
+// The newly left-out files.
 fn newly<'a>(
     alloc: Global,
     old: &[LeftOut<'_>],
@@ -59,7 +59,7 @@ fn newly<'a>(
     Ok(files)
 }
 
-// Appends what is told of such files of a folder to a text.
+// Appends the newly left-out files of a folder to a text.
 fn push_told(
     teller: Teller,
     folder: &PolicyFolder<'_>,
@@ -76,7 +76,7 @@ fn push_told(
     push_files(teller, words, folder, files, out)
 }
 
-// The files that are newly left out of a folder that is loaded.
+// The newly left-out files of a loaded folder.
 fn newly_of<'a>(
     alloc: Global,
     old: &LoadedFolder<'_>,
@@ -89,8 +89,9 @@ fn newly_of<'a>(
     newly(alloc, &before, &after)
 }
 
-/// Appends what is told of the files to a text that are left out of a new folder and not of the old one, by their names, and says whether there are none: a
-/// line of each with its path and why it is (`aatry_policy::push_reason`), or a record `newly_left_out` with `file` and what `aatry_policy::put_reason` puts.
+/// Appends the files that are left out of a new folder and not of the old one to a text, by their names, and returns whether there are none: a line
+/// of each with its path and the reason (`aatry_policy::push_reason`), or a record `newly_left_out` with `file` and what `aatry_policy::put_reason`
+/// puts.
 ///
 /// # Errors
 ///

@@ -1,4 +1,4 @@
-//! What sums up.
+//! The summary.
 
 ghost use Rattle.std.specs.Prelude.{◌≡◌, ◌++◌, OnOk};
 ghost use Rattle.aatry_diff.specs.Summary.{summary_line};
@@ -8,8 +8,7 @@ use aatry_report::Teller;
 use aatry_requests::{Requests, Share};
 use std::alloc::AllocError;
 
-/// Appends what sums up to a text (`aatry_requests::Requests::push_summary`), by how many questions are answered otherwise: that is `differing` in a
-/// record.
+/// Appends the summary to a text (`aatry_requests::Requests::push_summary`), by how many answers differ: that is `differing` in a record.
 ///
 /// # Errors
 ///

@@ -20,21 +20,21 @@ seen_top file = record { name = string_bytes file.name; loading = file.loading }
 abbrev pub file_names : List TopFile → List (List ℕ)
 file_names files = map (λ file. file.name) files
 
--- where that stands by which the profiles of a file are disabled, and by which they are loaded in complain mode
+-- the path by which the profiles of a file are disabled, and the one by which they are loaded in complain mode
 abbrev pub disable_path : List ℕ → List ℕ → List ℕ
 disable_path base name = path_of base (codes "disable/" ++ name)
 
 abbrev pub complain_path : List ℕ → List ℕ → List ℕ
 complain_path base name = path_of base (codes "force-complain/" ++ name)
 
--- The profiles of a file are disabled where something of its name stands in `disable/`, as the file system says; where nothing does, and something
--- stands in `force-complain/`, they are loaded in complain mode; and else by their flags.
+-- The profiles of a file are disabled where something of its name exists in `disable/`, by the file system; where nothing does, and something exists
+-- in `force-complain/`, they are loaded in complain mode; and else by their flags.
 abbrev pub IsLoadedSo : ToldFolders → List ℕ → List ℕ → Loading → Type 0
 IsLoadedSo folders base name Disable = folders.IsThere (disable_path base name) true
 IsLoadedSo folders base name ForceComplain = folders.IsThere (disable_path base name) false × folders.IsThere (complain_path base name) true
 IsLoadedSo folders base name ByFlags = folders.IsThere (disable_path base name) false × folders.IsThere (complain_path base name) false
 
--- the same of a file
+-- a file's profiles are loaded so
 abbrev pub IsAsked : ToldFolders → List ℕ → TopFile → Type 0
 IsAsked folders base file = IsLoadedSo folders base file.name file.loading
 
@@ -53,7 +53,7 @@ in_force files = filter (λ file. not (is_disabled file)) files
 abbrev pub disabled : List TopFile → List TopFile
 disabled files = filter is_disabled files
 
--- The order in which files are loaded: those that are disabled come last. So a profile in force is the first of its name.
+-- The order in which files are loaded: the disabled ones come last. So a profile in force is the first of its name.
 abbrev pub in_loading_order : List TopFile → List TopFile
 in_loading_order files = in_force files ++ disabled files
 

@@ -12,7 +12,7 @@ texts_of names = map string_bytes names.items
 abbrev pub is_folder : List ℕ → Bool
 is_folder name = is_empty name || is_folder_name name
 
--- a name without the `/` that a folder's has at its end
+-- a name without the `/` at the end of a folder's name
 abbrev pub without_slash : List ℕ → List ℕ
 without_slash name = if is_folder_name name then take (length name - 1) name else name
 
@@ -20,6 +20,6 @@ without_slash name = if is_folder_name name then take (length name - 1) name els
 unfoldable pub is_taken : List ℕ → Bool
 is_taken member = not (is_passed_over (without_slash member) || is_kept_aside member)
 
--- the names of a folder's members that are taken, below the base: each stands behind the folder's own
+-- the names of a folder's members that are taken, below the base: each follows the folder's own
 abbrev pub names_in : List ℕ → List (List ℕ) → List (List ℕ)
 names_in folder members = map (λ member. folder ++ member) (filter is_taken members)

@@ -14,12 +14,12 @@ abbrev pub path_of : List ℕ → List ℕ → List ℕ
 path_of base [] = base
 path_of base (b ∷ name) = (base ++ codes "/") ++ b ∷ name
 
--- how a folder is told: by its name, and the base by its path
+-- the name of a folder in a fault: its name, and the base by its path
 abbrev pub told_name : List ℕ → List ℕ → List ℕ
 told_name base [] = base
 told_name base (b ∷ name) = b ∷ name
 
--- The members that a name may have: a folder those that it is told to have, and a file none.
+-- The members that a name may have: a folder those that the file system answers, and a file none.
 abbrev pub MayHave : ToldFolders → List ℕ → List ℕ → List (List ℕ) → Type 0
 MayHave told base name members = MatchBool (is_folder name) (told.HasMembers (path_of base name) members) (members ≡ [])
 
@@ -28,14 +28,14 @@ pub record Answer : Type 0 where
   pub name : List ℕ
   pub members : List (List ℕ)
 
--- Of each of these names there is one answer, in their order: of a folder what the file system told when it was asked, and of a file no members.
+-- For each of these names there is one answer, in their order: for a folder what the file system answered, and for a file no members.
 abbrev pub AreAnswers : ToldFolders → List ℕ → List (List ℕ) → List Answer → Type 0
 AreAnswers told base [] answers = answers ≡ []
 AreAnswers told base (name ∷ names) answers =
     (members : List (List ℕ)) × (more : List Answer) × MayHave told base name members
     × (answers ≡ record { name = name; members = members } ∷ more) × AreAnswers told base names more
 
--- the names of all members that are answered and taken, one folder's behind the other's
+-- the names of all members that are answered and taken, one folder's after the other's
 abbrev pub names_answered : List Answer → List (List ℕ)
 names_answered [] = []
 names_answered (answer ∷ answers) = names_in answer.name answer.members ++ names_answered answers
@@ -57,12 +57,12 @@ pub record IsMemberBehind (told : ToldFolders) (base : List ℕ) (before : List 
   pub taken : is_taken member ≡ true
   pub joined : name ≡ folder ++ member
 
--- Each name is found: in the base, or in a folder that stands before it.
+-- Each name is found: in the base, or in a folder before it.
 abbrev pub AreFound : ToldFolders → List ℕ → List (List ℕ) → List (List ℕ) → Type 0
 AreFound told base before [] = Unit {0}
 AreFound told base before (name ∷ names) = IsMemberBehind told base before name × AreFound told base (before ++ name ∷ []) names
 
--- Why names can't be told: a folder that was found can't be read, as the file system says, or more names than may be are found.
+-- Why names can't be listed: a folder that was found can't be read, by the file system, or more names than may be are found.
 abbrev pub IsFault : ToldFolders → List ℕ → FolderFault → Type 0
 IsFault told base (Unreadable text) =
     (names : List (List ℕ)) × (folder : List ℕ) × AreFound told base [] names × Contains ([] ∷ names) folder

@@ -6,13 +6,13 @@ use Rattle.aa_bytes.specs.Bytes.{dot}
 use Rattle.aa_bytes.specs.Texts.{begins_with, begins_with_byte, is_empty}
 use Rattle.aa_text_files.specs.Files.{is_folder_name}
 
--- what editors, Debian's, Arch's and RPM's packagers, and patch put behind the names of files that they leave
+-- what editors, Debian's, Arch's and RPM's packagers, and patch append to the names of files that they leave
 abbrev pub leftover_endings : List (List ℕ)
 leftover_endings =
     codes "~" ∷ codes ".dpkg-new" ∷ codes ".dpkg-old" ∷ codes ".dpkg-dist" ∷ codes ".dpkg-bak" ∷ codes ".dpkg-remove"
     ∷ codes ".pacsave" ∷ codes ".pacnew" ∷ codes ".rpmnew" ∷ codes ".rpmsave" ∷ codes ".orig" ∷ codes ".rej" ∷ []
 
--- a name ends as that of such a file
+-- a name ends like that of such a file
 unfoldable pub is_leftover : List ℕ → Bool
 is_leftover name = list_any (λ ending. ends_with nat_eq name ending) leftover_endings
 
@@ -20,8 +20,8 @@ is_leftover name = list_any (λ ending. ends_with nat_eq name ending) leftover_e
 unfoldable pub is_passed_over : List ℕ → Bool
 is_passed_over name = is_empty name || begins_with_byte dot name || bytes_eq name (codes "README") || is_leftover name
 
--- A folder in which apparmor_parser and what starts it keep what isn't policy: caches, and links to files that aren't to be loaded, or in complain
--- mode alone. It is told with `/` at its end.
+-- A folder in which apparmor_parser and what starts it keep what isn't policy: caches, and links to files that aren't to be loaded, or only in
+-- complain mode. Its name has `/` at its end.
 unfoldable pub is_kept_aside : List ℕ → Bool
 is_kept_aside member =
     bytes_eq member (codes "disable/") || bytes_eq member (codes "force-complain/") || (is_folder_name member && begins_with (codes "cache") member)

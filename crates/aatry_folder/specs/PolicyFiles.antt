@@ -8,6 +8,6 @@ pub record PolicyFiles : Type 0 where
   pub files : List File
   pub base : List ℕ
 
--- the same as the code has it
+-- what lies below a folder, as the code has it
 abbrev pub seen_files : CodeFiles → PolicyFiles
 seen_files below = record { files = below.files.now; base = below.base.now }

@@ -1,8 +1,8 @@
--- What a command came to.
+-- The report of a command.
 use Rattle.std.specs.Prelude.{ℕ, Bool, if◌then◌else◌, List}
 use Rattle.aatry_folder.specs.declared.report.Report.{Report as CodeReport}
 
--- what a command came to: what is told of it, what is noted beside that on standard error, and how much of it failed
+-- the report of a command: its text, the notes beside that on standard error, and how much of it failed
 pub record Report : Type 0 where
   pub text : List ℕ
   pub notes : List ℕ

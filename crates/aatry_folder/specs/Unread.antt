@@ -21,8 +21,8 @@ pub record IsOfFound (folders : ToldFolders) (base : List ℕ) (fault : GatherFa
   pub found : AreFound folders base [] names
   pub first : IsFirstRefusal names fault
 
--- A fault keeps a folder of policy from being read: a folder that is found can't be, or a name that is found is none for a file; too many are found; or
--- memory ran out. That a file can't be read is none.
+-- A fault keeps a folder of policy from being read: a folder that is found can't be, or a name that is found is none for a file; too many are found;
+-- or memory ran out. That a file can't be read is none.
 abbrev pub IsOfFolder : ToldFolders → List ℕ → Fault → Type 0
 IsOfFolder folders base (Unreadable name) =
     IsFault folders base (folder.Unreadable name) ⊎ IsOfFound folders base (files.Untaken name)
@@ -30,8 +30,8 @@ IsOfFolder folders base TooMany = IsFault folders base folder.TooMany
 IsOfFolder folders base NoMemory = ⊤
 IsOfFolder folders base fault = ⊥
 
--- A fault keeps the file at a path of its own from being read: the path, which is told, is that of a folder or a bad name, or the file can't be read; or
--- memory ran out. A path that isn't whole begins in the current folder.
+-- A fault keeps the file at a path of its own from being read: the path, which the fault has, is that of a folder or a bad name, or the file can't
+-- be read; or memory ran out. A relative path starts in the current folder.
 abbrev pub IsOfFile : Known → List ℕ → Fault → Type 0
 IsOfFile known path (Unreadable name) =
     (string_bytes name ≡ path)

@@ -1,2 +1,2 @@
--- What is about the code: how the names of one folder come behind those that were found.
+-- Definitions about the code: how the names of one folder are appended to those that were found.
 pub mod Step

@@ -1,4 +1,4 @@
-//! Which includes ask for something by a whole path that lies below a folder.
+//! Which includes name something by a whole path that lies below a folder.
 
 ghost use Rattle.std.specs.Prelude.{◌≡◌, ◌++◌, false, IfOk, OnOk, map};
 ghost use Rattle.aa_text_tokens.specs.Splicing.{looked_up};
@@ -12,7 +12,7 @@ use aa_text_files::Files;
 use aa_text_tokens::{CutRefusal, Token, TokenKind, tokens};
 use std::alloc::{AllocError, Global};
 
-// The name that an include looks up: as it is written, but for one `/` at its end.
+// The name that an include looks up: as it is written, without one `/` at its end.
 fn looked_up(name: &[u8]) -> &[u8]
     ensures { result.now ≡ looked_up name.now }
 {
@@ -23,7 +23,7 @@ fn looked_up(name: &[u8]) -> &[u8]
     }
 }
 
-// Appends a name that an include looks up to others, where it begins as each path below the folder does.
+// Appends a name that an include looks up to `asked`, if it begins like each path below the folder.
 fn push_below<'a>(front: &[u8], name: &'a [u8], asked: &mut Vec<&'a [u8]>) -> Result<(), AllocError>
     ensures { OnOk result (lent_paths asked.new.items ≡ lent_paths asked.old.items ++ below_if front.now name.now) }
 {
@@ -33,7 +33,7 @@ fn push_below<'a>(front: &[u8], name: &'a [u8], asked: &mut Vec<&'a [u8]>) -> Re
     Ok(())
 }
 
-// Appends what a token asks for so.
+// Appends what a token looks up to `asked`, if it begins like each path below the folder.
 fn push_by<'a>(front: &[u8], token: Token<'a>, asked: &mut Vec<&'a [u8]>) -> Result<(), AllocError>
     ensures { OnOk result (lent_paths asked.new.items
         ≡ lent_paths asked.old.items ++ asked_by front.now (seen token.entry).kind (seen token.entry).text) }
@@ -44,7 +44,7 @@ fn push_by<'a>(front: &[u8], token: Token<'a>, asked: &mut Vec<&'a [u8]>) -> Res
     }
 }
 
-// Appends what tokens ask for so.
+// Appends what tokens look up to `asked`, as far as it begins like each path below the folder.
 fn push_of<'a>(
     front: &[u8],
     tokens: &[Token<'a>],
@@ -60,7 +60,7 @@ fn push_of<'a>(
     Ok(())
 }
 
-// Whether a text holds this front of paths, at a slash of it.
+// Whether a text contains this front of paths, at a slash of it.
 fn holds(front: &[u8], text: &[u8]) -> bool
     ensures { result ≡ holds front.now text.now }
 {
@@ -74,7 +74,7 @@ fn holds(front: &[u8], text: &[u8]) -> bool
     false
 }
 
-// Appends what a text asks for so that can be cut.
+// Appends what a text that can be cut into tokens looks up to `asked`, as far as it begins like each path below the folder.
 fn push_cut<'a>(
     alloc: Global,
     front: &[u8],
@@ -90,7 +90,7 @@ fn push_cut<'a>(
     }
 }
 
-// The same where the text holds the front: no other is cut.
+// Appends what a text looks up to `asked`, as far as it begins like each path below the folder; a text without the front isn't cut.
 fn push_in<'a>(
     alloc: Global,
     front: &[u8],
@@ -105,7 +105,8 @@ fn push_in<'a>(
     push_cut(alloc, front, text, asked)
 }
 
-/// What the includes of files look up, where it begins as each path below a folder does: with the path of the folder and a `/`, which is `front`.
+/// The names that the includes of files look up, as far as they begin like each path below a folder: with the path of the folder and a `/`, which is
+/// `front`.
 ///
 /// # Errors
 ///

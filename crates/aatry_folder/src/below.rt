@@ -12,7 +12,7 @@ use std::alloc::{AllocError, Global};
 use std::io::ErrorKind;
 use thiserror::Error;
 
-/// Why the names below a folder of policy can't be told.
+/// Why the names below a folder of policy can't be listed.
 #[derive(Debug, Drop, Error)]
 pub enum FolderFault {
     /// The first folder that can't be read, by its name below the base, and the base by its path.
@@ -56,7 +56,7 @@ pub fn is_for_memory(kind: ErrorKind) -> bool
     matches!(kind, ErrorKind::OutOfMemory)
 }
 
-// The fault of a folder that can't be read, by the kind of error, and by what the folder is told by, if there was memory for that.
+// The fault of a folder that can't be read, by the kind of error, and by the folder's path for the message, if there was memory for that.
 fn fault_by(kind: ErrorKind, told: Result<String, AllocError>) -> FolderFault
     ensures memory { is_for_memory kind ≡ true → result ≡ FolderFault.Memory }
     ensures unreadable { is_for_memory kind ≡ false → IfOk told (λ told. result ≡ fault.Unreadable told) }
@@ -71,7 +71,7 @@ fn fault_by(kind: ErrorKind, told: Result<String, AllocError>) -> FolderFault
     }
 }
 
-// The same by the folder's name below the base.
+// The fault of a folder that can't be read, by its name below the base.
 fn fault_of(alloc: Global, base: &str, name: &str, kind: ErrorKind) -> FolderFault
     requires { IsTrue (is_folder name.now) }
     ensures told { IsFaultSince (is_for_memory kind ≡ false) base.now name.now result }
@@ -98,7 +98,7 @@ fn members_of<F: Folders>(
     }
 }
 
-// The names that come of one name: of a folder those of its members that are taken, and of a file none.
+// The names that one name adds: of a folder those of its members that are taken, and of a file none.
 fn names_of<F: Folders>(
     folders: &F,
     alloc: Global,
@@ -115,7 +115,7 @@ fn names_of<F: Folders>(
     Ok(names_in(alloc, name, members)?)
 }
 
-// Appends names to others, if they aren't too many together.
+// Appends `more` to the names, if they aren't too many together.
 fn put_behind(names: &mut Vec<String>, mut more: Vec<String>) -> Result<(), FolderFault>
     requires { vec_len names.old ≤ most_names }
     ensures ok { OnOk result (texts_of names.new ≡ texts_of names.old ++ texts_of more) }
@@ -129,7 +129,7 @@ fn put_behind(names: &mut Vec<String>, mut more: Vec<String>) -> Result<(), Fold
     Ok(())
 }
 
-// Appends what comes of the name at a place to the names.
+// Appends what the name at an index adds to the names.
 fn put_names_of<F: Folders>(
     folders: &F,
     alloc: Global,
@@ -166,9 +166,9 @@ fn base_names<F: Folders>(
     Ok(names)
 }
 
-/// The names of all files and folders below the folder `base`, relative to it and a folder's with `/` at its end: first those of the members
-/// of `base`, and behind them those of the members of each folder among the names, in order. What is passed over is left out, with all that
-/// stands below it (`is_passed_over`, `is_kept_aside`). Links are followed: what a link leads to that goes back up is told anew below it, until the system
+/// The names of all files and folders below the folder `base`, relative to it and a folder's with `/` at its end: first those of the members of
+/// `base`, followed by those of the members of each folder among the names, in order. What is passed over is left out, with all that lies below it
+/// (`is_passed_over`, `is_kept_aside`). Links are followed: what a link leads to that goes back up is listed again below it, until the system
 /// follows no further or there are too many names.
 ///
 /// # Errors

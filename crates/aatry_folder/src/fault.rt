@@ -8,17 +8,17 @@ use crate::below::FolderFault;
 use aa_start::GatherFault;
 use std::alloc::AllocError;
 
-/// What keeps the program from doing what it is asked for. Reading a folder of policy or a file gives none but `Unreadable`, `TooMany` and `NoMemory`;
-/// the others are those of the commands and of the program, which reports all of them alike.
+/// What keeps the program from doing what it is asked for. Reading a folder of policy or a file fails only with `Unreadable`, `TooMany` and
+/// `NoMemory`; the other faults are those of the commands and of the program, which reports all of them alike.
 #[derive(Drop)]
 pub enum Fault {
-    /// The arguments ask for something that there isn't.
+    /// The arguments ask for something that doesn't exist.
     BadArguments,
-    /// The words behind a command ask no question.
+    /// The words after a command make no question.
     BadQuestion,
     /// The first file or folder that can't be read, by its name below the folder of policy, and that folder or a transcript by its path.
     Unreadable(String),
-    /// More than 65,536 files and folders lie below the folder of policy.
+    /// There are more than 65,536 files and folders below the folder of policy.
     TooMany,
     /// A log that gzip wrote, by its path, or `-` for standard input.
     Compressed(String),

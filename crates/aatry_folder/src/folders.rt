@@ -1,4 +1,4 @@
-//! Where the members of folders are read from.
+//! From where the members of folders are read.
 ghost use Rattle.std.specs.Prelude.{◌≡◌, ◌++◌, None, Ok, Err, IfErr, IfOk, IfSome, IsNone, codes, false, is_err, option_map, string_bytes, true};
 ghost use Rattle.std.specs.Fs.{IsDir, IsFile};
 ghost use Rattle.std.specs.IoError.{error_kind};
@@ -14,7 +14,7 @@ use std::{fs, io, rt};
 
 /// A file system, as far as its folders are read.
 pub trait Folders {
-    // What it tells of its folders: their members, and which can't be read.
+    // What it answers on its folders: their members, and which can't be read.
     ghost told: { Self → ToldFolders };
 
     /// The members of the folder at a path, each by its name, a folder's with `/` at its end. Links are followed. What is neither a file nor
@@ -27,8 +27,8 @@ pub trait Folders {
         ensures ok { IfOk result (λ names. (told self.now).HasMembers path.now (texts_of names)) }
         ensures err { IfErr result (λ error. SaysUnreadable (told self.now) path.now (error_kind error)) };
 
-    /// Whether something stands at a path: a file, a folder, or whatever else. Links are followed, so that one that leads nowhere doesn't stand
-    /// there, and what the system doesn't lead to for another reason doesn't either.
+    /// Whether something exists at a path: a file, a folder, or whatever else. Links are followed, so that a path whose link leads nowhere doesn't
+    /// exist, nor does one to which the system doesn't lead for another reason.
     ///
     /// # Errors
     ///
@@ -36,7 +36,7 @@ pub trait Folders {
     fn is_there(&self, path: &str) -> Result<bool, AllocError>
         ensures { IfOk result (λ there. (told self.now).IsThere path.now there) };
 
-    /// The whole path of the folder at a path that isn't whole: one that begins with `/`, if the system leads to it.
+    /// The whole path, one that begins with `/`, of the folder at a relative path; `None` where the system doesn't lead to it.
     ///
     /// # Errors
     ///
@@ -45,9 +45,9 @@ pub trait Folders {
         ensures { IfOk result (λ found. (told self.now).IsWhole path.now (option_map string_bytes found)) };
 }
 
-/// The folders of a runtime's file system. Whatever it tells of their members is believed. They come in the order of their
-/// names' bytes, a folder's `/` included, whatever the order of the system is. A folder with a name in it that isn't text (UTF-8) can't be
-/// read: its kind of error is `InvalidFilename`.
+/// The folders of a runtime's file system. What the system answers on their members is trusted. The members are in the order of their names' bytes,
+/// a folder's `/` included, whatever the order of the system is. A folder with a name in it that isn't text (UTF-8) can't be read: its kind of error
+/// is `InvalidFilename`.
 #[derive(Drop)]
 pub struct RuntimeFolders<R> {
     rt: R,
@@ -60,7 +60,7 @@ impl<R: rt::Files> RuntimeFolders<R> {
     }
 }
 
-// Whether a link leads nowhere, by the error of following it. What was taken away since its folder was read leads nowhere too.
+// Whether a link leads nowhere, by the error of following it. What was removed since its folder was read leads nowhere too.
 fn leads_nowhere(kind: ErrorKind) -> bool
     ensures { result ≡ leads_nowhere kind }
 {
@@ -70,7 +70,7 @@ fn leads_nowhere(kind: ErrorKind) -> bool
     )
 }
 
-// What following a path found, if it leads anywhere. Only the errors of links that lead nowhere are passed over.
+// What following a path found, if it leads anywhere. Only the errors of links that lead nowhere are ignored.
 fn found(followed: io::Result<FileType>) -> io::Result<Option<FileType>>
     ensures kind { IfOk followed (λ kind. result ≡ Ok (Some kind)) }
     ensures nowhere { IfErr followed (λ error. leads_nowhere (error_kind error) ≡ true → result ≡ Ok None) }
@@ -93,12 +93,12 @@ fn kind_at(rt: &impl rt::Files, path: &str) -> io::Result<FileType> {
     Ok(fs::metadata(rt, path)?.file_type())
 }
 
-// The same, if it leads anywhere.
+// What a path leads to, if it leads anywhere.
 fn followed(rt: &impl rt::Files, path: &str) -> io::Result<Option<FileType>> {
     found(kind_at(rt, path))
 }
 
-// Whether following a path led anywhere. It is unknown for want of memory alone.
+// Whether following a path led anywhere. Only for want of memory this is unknown.
 fn leads_there(followed: io::Result<FileType>) -> Result<bool, AllocError>
     ensures there { is_err followed ≡ false → result ≡ Ok true }
     ensures nowhere { IfErr followed (λ error. is_for_memory (error_kind error) ≡ false → result ≡ Ok false) }
@@ -121,7 +121,7 @@ fn canonical<R: rt::Files + AllocGlobal + Drop>(
     Ok(String::from_str(alloc, found.as_str())?)
 }
 
-// The path that was found, if one was. It is unknown for want of memory alone.
+// The path that was found, if one was. Only for want of memory this is unknown.
 fn path_found(found: io::Result<String>) -> Result<Option<String>, AllocError>
     ensures there { IfOk found (λ path. result ≡ Ok (Some path)) }
     ensures nowhere { IfErr found (λ error. is_for_memory (error_kind error) ≡ false → result ≡ Ok None) }
@@ -134,7 +134,7 @@ fn path_found(found: io::Result<String>) -> Result<Option<String>, AllocError>
     }
 }
 
-// A folder's name, with `/` behind it.
+// A folder's name, followed by `/`.
 fn folder_name(alloc: Global, name: &str) -> Result<String, AllocError>
     ensures { IfOk result (λ told. string_bytes told ≡ name.now ++ codes "/") }
 {
@@ -143,7 +143,7 @@ fn folder_name(alloc: Global, name: &str) -> Result<String, AllocError>
     Ok(told)
 }
 
-// The name of a member by what its path leads to: a file's own, a folder's with `/` behind it, and else none.
+// The name of a member by what its path leads to: a file's own, a folder's followed by `/`, and `None` for anything else.
 fn member_name(alloc: Global, name: &str, kind: Option<FileType>) -> io::Result<Option<String>>
     ensures file { IfSome kind (λ kind. IsFile kind → IfOk result (λ told. option_map string_bytes told ≡ Some name.now)) }
     ensures folder { IfSome kind (λ kind. IsDir kind → IfOk result (λ told. option_map string_bytes told ≡ Some (name.now ++ codes "/"))) }
@@ -157,7 +157,7 @@ fn member_name(alloc: Global, name: &str, kind: Option<FileType>) -> io::Result<
     }
 }
 
-// Appends a member to the others, if it is a file or a folder. One that can't be read fails.
+// Appends a member to the names, if it is a file or a folder. A member that can't be read is an error.
 fn take_member<R: rt::Files + Drop>(
     rt: &R,
     alloc: Global,
@@ -174,7 +174,7 @@ fn take_member<R: rt::Files + Drop>(
     Ok(())
 }
 
-// The members of a folder, as they come.
+// The members of a folder, in the order of the system.
 fn read_members<R: rt::Files + AllocGlobal + Clone + Drop>(
     rt: &R,
     alloc: Global,
@@ -190,7 +190,7 @@ fn read_members<R: rt::Files + AllocGlobal + Clone + Drop>(
 impl<R: rt::Files + AllocGlobal + Clone + Drop> Folders for RuntimeFolders<R> {
     ghost told = { λ _. anything_in_order };
 
-    // They are in order, whatever the order of the system is.
+    // The members are sorted, whatever the order of the system is.
     fn members(&self, alloc: Global, path: &str) -> io::Result<Vec<String>> {
         let mut names = read_members(&self.rt, alloc, path)?;
         names.sort()?;

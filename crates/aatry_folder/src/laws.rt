@@ -16,9 +16,9 @@ ghost use Rattle.aatry_folder.specs.Reaching.{Reaches};
 use crate::folders::Folders;
 use aa_start::FileSystem;
 
-/// Where names come of a walk, as those that `aatry_folder::names_below` finds, each file and folder that stands in the folder of policy and isn't passed
-/// over is among them, however deep it lies: each that stands there by what the file system answered in the walk, which asked for the members of the base
-/// and of each folder among the names; and where a file system tells the same as often as it is asked, each that stands there by what it tells.
+/// Where names come of a walk, like those that `aatry_folder::names_below` finds, each file and folder that exists in the folder of policy and isn't
+/// passed over is among them, however deep it lies: each that exists there by what the file system answered in the walk, which asked for the members
+/// of the base and of each folder among the names; and where a file system always gives the same answers, each that exists there by these.
 pub fn what_stands_is_among_the_names<F: Folders>(folders: &F)
     ensures answered { (base : List ℕ) (answers : List Answer) (names : List (List ℕ)) (name : List ℕ)
         → IsWalk (F.told folders.now) base answers names → Stands (Answered answers) name → Contains names name }
@@ -37,9 +37,9 @@ pub fn what_is_missing_is_asked_for()
     ensures itself { (files : List File) (name : List ℕ) → spliced files name ≡ Err (NoFile, None) → IsMissingAsAWhole files name }
 {}
 
-/// So nothing is missing that stands in the folder of policy: where the names of the files come of a walk, whatever others stand behind them, nothing
-/// stands there for the include that the fault is told at, by what the file system answered in the walk; and where it tells the same as often as it is asked, by what it tells. This is so of all
-/// that `policy_below` reads, for each command.
+/// So nothing is missing that exists in the folder of policy: where the names of the files come of a walk, whatever other names follow them, nothing
+/// exists there for the include at which the fault is reported, by what the file system answered in the walk; and where it always gives the same
+/// answers, by these. This holds of all that `policy_below` reads, for each command.
 pub fn nothing_that_stands_is_missing<F: Folders>(folders: &F)
     ensures answered { (base : List ℕ) (answers : List Answer) (names others : List (List ℕ)) (files : List File) (name : List ℕ) (place : Place)
         → IsWalk (F.told folders.now) base answers names
@@ -55,7 +55,7 @@ pub fn nothing_that_stands_is_missing<F: Folders>(folders: &F)
 {}
 
 /// Nothing is read as policy of a file that couldn't be read, nor of any other that leads to it by includes, through however many files: where files
-/// are taken as `policy_below` takes them, splicing such a file by its name comes to a fault.
+/// are gathered as by `policy_below`, splicing such a file by its name is a fault.
 pub fn what_cannot_be_read_is_never_entered<D: FileSystem>(disk: &D)
     ensures { (base : List ℕ) (files : List File) (unread : List (Option UnreadFault)) (name : List ℕ) (one other : ℕ) (way : List ℕ) (fault : UnreadFault)
         → AreTakenSo (D.known disk.now) base files unread

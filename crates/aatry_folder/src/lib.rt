@@ -1,5 +1,5 @@
-//! Folders of policy on a disk: which files lie there, which are passed over, and what is read of them; and includes by a whole path, which are looked up
-//! below the folder.
+//! Folders of policy on disk: which files lie there, which are passed over, and what is read of them; and includes by a whole path, which are looked
+//! up below the folder.
 #![tactic(auto)]
 
 mod asked;

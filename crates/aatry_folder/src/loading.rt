@@ -16,9 +16,9 @@ use std::alloc::{AllocError, Global};
 pub enum Loading {
     /// In the modes of their own flags.
     ByFlags,
-    /// In complain mode, all of each, whatever their flags: something of the file's name stands in `force-complain/`, and nothing in `disable/`.
+    /// In complain mode, all of each, whatever their flags: something of the file's name exists in `force-complain/`, and nothing in `disable/`.
     ForceComplain,
-    /// They are disabled: something of the file's name stands in `disable/`.
+    /// They are disabled: something of the file's name exists in `disable/`.
     Disable,
 }
 
@@ -31,7 +31,7 @@ pub struct TopFile {
     pub loading: Loading,
 }
 
-// Whether something of a file's name stands in a folder of the base, which is told with `/` at its end.
+// Whether something of a file's name exists in a folder of the base, whose name has `/` at its end.
 fn stands_in<F: Folders>(
     folders: &F,
     alloc: Global,
@@ -65,7 +65,7 @@ fn loading_of<F: Folders>(
     Ok(Loading::ByFlags)
 }
 
-// Appends a file to others, with how its profiles are loaded.
+// Appends a file to `top`, with how its profiles are loaded.
 fn push_top<F: Folders>(
     folders: &F,
     alloc: Global,
@@ -135,9 +135,9 @@ fn in_loading_order(alloc: Global, files: Vec<TopFile>) -> Result<Vec<TopFile>, 
     Ok(first)
 }
 
-/// The files of some names at the top of a folder of policy, each with how its profiles are loaded, in the order in which they are: those that are
-/// disabled last, since apparmor_parser passes over these, so that a profile of the same name in another file is in force. For each file it is asked
-/// whether something of its name stands in `disable/` and `force-complain/`; what lies in these folders is not read.
+/// The files of some names at the top of a folder of policy, each with how its profiles are loaded, in the order in which they are: the disabled
+/// ones last, since apparmor_parser passes over these, so that a profile of the same name in another file is in force. For each file it is asked
+/// whether something of its name exists in `disable/` and `force-complain/`; what lies in these folders is not read.
 ///
 /// # Errors
 ///

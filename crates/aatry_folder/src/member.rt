@@ -13,7 +13,7 @@ pub fn is_folder(name: &[u8]) -> bool
     name.is_empty() || Files::is_folder(name)
 }
 
-// A name without the `/` that a folder's has at its end.
+// A name without the `/` at the end of a folder's name.
 fn without_slash(name: &[u8]) -> &[u8]
     ensures { result.now ≡ without_slash name.now }
 {

@@ -10,7 +10,7 @@ use aa_start::{FileSystem, gather};
 use aa_text_files::Files;
 use std::alloc::{AllocError, Global};
 
-// The folder that the path of a file begins in, where it is no whole path.
+// The folder from which a relative path starts.
 const CURRENT: &str = ".";
 
 // A path alone.
@@ -22,7 +22,7 @@ fn one_path(alloc: Global, path: String) -> Result<Vec<String>, AllocError>
     Ok(paths)
 }
 
-/// The file of this path, as the one file of some. The path begins in the current folder where it isn't whole.
+/// The file of this path, as the only one of `Files`. A relative path starts in the current folder.
 ///
 /// # Errors
 ///

@@ -6,7 +6,7 @@ ghost use Rattle.aatry_folder.specs.PassedOver.{is_kept_aside, is_leftover, is_p
 use aa_bytes::{begins_with, begins_with_byte};
 use aa_text_files::Files;
 
-// What packagers, patch and editors put behind the names of files that they leave.
+// What packagers, patch and editors append to the names of files that they leave.
 const LEFTOVER_ENDINGS: [&str; 12] = [
     "~",
     ".dpkg-new",
@@ -22,7 +22,7 @@ const LEFTOVER_ENDINGS: [&str; 12] = [
     ".rej",
 ];
 
-// Whether a name ends with one of these.
+// Whether a name ends with one of some endings.
 fn has_ending(name: &[u8], endings: &[&str]) -> bool
     ensures { result ≡ list_any (λ ending. ends_with nat_eq name.now ending.now) endings.now }
 {
@@ -54,7 +54,7 @@ pub fn is_passed_over(name: &[u8]) -> bool
 }
 
 /// Whether a member of a folder of policy is a folder in which apparmor_parser and what starts it keep what isn't policy: `disable/`,
-/// `force-complain/`, and one whose name begins with `cache`. A folder is told with `/` at its end.
+/// `force-complain/`, and one whose name begins with `cache`. A folder's name has `/` at its end.
 #[tactic(auto, unfolding(crate::specs::PassedOver::is_kept_aside))]
 pub fn is_kept_aside(member: &[u8]) -> bool
     ensures { result ≡ is_kept_aside member.now }

@@ -1,4 +1,4 @@
-//! The whole paths of those names in a folder that includes ask for by them.
+//! The whole paths of those names in a folder that includes look up by them.
 
 ghost use Rattle.std.specs.Prelude.{◌≡◌, ◌++◌, IfOk, OnOk, map, string_bytes};
 ghost use Rattle.std.specs.Option.{option_map};
@@ -11,7 +11,7 @@ use aa_bytes::{begins_with, begins_with_byte, behind};
 use aa_text_files::Files;
 use std::alloc::{AllocError, Global};
 
-/// How the path of each file below a folder begins, by the folder's: with a slash behind it, unless it ends in one.
+/// The beginning of the path of each file below a folder, by the folder's path: followed by a slash, unless it ends in one.
 ///
 /// # Errors
 ///
@@ -26,21 +26,21 @@ pub fn front_at(alloc: Global, path: &str) -> Result<String, AllocError>
     Ok(front)
 }
 
-// Whether a path stands below a folder, or is that folder's with `/` at its end.
+// Whether a path lies below a folder, or is that folder's with `/` at its end.
 fn stands_below(folder: &[u8], path: &[u8]) -> bool
     ensures { result ≡ stands_below folder.now path.now }
 {
     begins_with(folder, path) && begins_with_byte(b'/', behind(folder.len(), path))
 }
 
-// Whether a whole path is asked for by what is looked up.
+// Whether a whole path is needed for what is looked up.
 fn is_asked_by(path: &[u8], asked: &[u8]) -> bool
     ensures { result ≡ is_asked_by path.now asked.now }
 {
     asked == path || stands_below(asked, path)
 }
 
-// Whether it is by one of these.
+// Whether a whole path is needed for one of the names that are looked up.
 fn is_asked(asked: &[&[u8]], path: &[u8]) -> bool
     ensures { result ≡ is_asked (lent_paths asked.now) path.now }
 {
@@ -63,7 +63,7 @@ fn whole_path(alloc: Global, front: &str, name: &str) -> Result<String, AllocErr
     Ok(path)
 }
 
-// Appends the whole path of a name to others, if it is asked for.
+// Appends the whole path of a name to `paths`, if it is needed.
 fn push_asked(
     alloc: Global,
     asked: &[&[u8]],
@@ -80,7 +80,7 @@ fn push_asked(
     Ok(())
 }
 
-// Those of names that are asked for.
+// The whole paths of those names that are needed.
 fn asked_paths(
     alloc: Global,
     asked: &[&[u8]],
@@ -105,7 +105,7 @@ fn has_control(text: &[u8]) -> bool
     text.iter().any(|byte| *byte < b' ')
 }
 
-// The same, where includes of files ask for them.
+// The whole paths of those names that the includes of files need.
 fn whole_names_behind(
     alloc: Global,
     front: &str,
@@ -121,11 +121,11 @@ fn whole_names_behind(
     asked_paths(alloc, &asked, front, names)
 }
 
-/// The whole paths of those names in a folder of policy that includes of its files ask for by them: each is the name behind `front`, how the whole path of each
-/// file of the folder begins (`front_at`), if that is known; else there are none. A folder's name ends in `/`, and what stands below a folder that is asked
-/// for is asked for too. An include asks for what is written in it, but for one `/` at its end, and as it is written: with `//` or `..` in it that is
-/// another path. Of a text that can't be cut into tokens nothing is asked. There are none where `front` holds a byte below the space, since no file has
-/// such a name.
+/// The whole paths of those names in a folder of policy that includes of its files look up by them: each is `front`, the beginning of the whole path
+/// of each file of the folder (`front_at`), followed by the name, if `front` is known; else there are none. A folder's name ends in `/`, and what
+/// lies below a folder that is looked up is included too. An include looks up what is written in it, without one `/` at its end, and exactly as it
+/// is written: with `//` or `..` in it that is another path. A text that can't be cut into tokens looks up nothing. There are none where `front` has
+/// a byte below the space, since no file has such a name.
 ///
 /// # Errors
 ///

@@ -29,18 +29,18 @@ pub struct PolicyFolder<'a> {
     pub language: Language,
     /// Its path.
     pub base: &'a str,
-    /// All files and folders below it, by their names in it, and those once more by their whole paths that includes ask for by these. A text that is
-    /// refused stands in place of each that wasn't read.
+    /// All files and folders below it, by their names in it, and those again by their whole paths that includes look up by these. A text that is
+    /// refused is in place of each that wasn't read.
     pub files: Files,
-    /// For each of them, in their order, why it wasn't read; nothing where it was.
+    /// For each of them, in their order, why it wasn't read; `None` where it was.
     pub unread: Vec<Option<UnreadFault>>,
-    /// The files that are tried: those at its top, whose profiles are loaded, in the order of their names, and all others that weren't read, of which
-    /// nothing is. Those that are disabled come behind all others.
+    /// The files that are tried: those at its top, whose profiles are loaded, in the order of their names, and all other files that weren't read, of
+    /// which no profile is. The disabled ones come last.
     pub top: Vec<TopFile>,
 }
 
 impl<'a> PolicyFolder<'a> {
-    /// What lies below it, lent. It takes no memory.
+    /// What lies below it, borrowed. It takes no memory.
     pub fn lent(&self) -> PolicyFiles<'_>
         ensures { seen_files result ≡ record { files = self.now.files; base = self.now.base.now } }
     {
@@ -51,14 +51,14 @@ impl<'a> PolicyFolder<'a> {
     }
 }
 
-// Whether a file stands at the top of the folder.
+// Whether a file is at the top of the folder.
 fn is_at_top(name: &str) -> bool
     ensures { result ≡ is_at_top name.now }
 {
     !has_byte(b'/', name.as_bytes())
 }
 
-// Appends a name to others, if its file stands at the top of the folder.
+// Appends a name to `names`, if its file is at the top of the folder.
 fn push_top(alloc: Global, names: &mut Vec<String>, name: &str) -> Result<(), AllocError>
     ensures { OnOk result (texts_of names.new ≡ texts_of names.old ++ top_names (name.now ∷ [])) }
 {
@@ -79,7 +79,7 @@ fn top_names(alloc: Global, names: &[String]) -> Result<Vec<String>, AllocError>
     Ok(top)
 }
 
-// Appends the name of a file to others that wasn't read, if it doesn't stand at the top of the folder and is no whole path, which is a further name.
+// Appends the name of a file that wasn't read to `names`, if it isn't at the top of the folder and is no whole path, which is a further name.
 fn push_unread(
     alloc: Global,
     names: &mut Vec<String>,
@@ -94,7 +94,7 @@ fn push_unread(
     Ok(())
 }
 
-// Appends the names of all files to others that weren't read, and don't stand at the top of the folder.
+// Appends the names of all files to `top` that weren't read, and aren't at the top of the folder.
 fn push_each_unread(
     alloc: Global,
     top: &mut Vec<String>,
@@ -129,7 +129,7 @@ fn tried_names(
     Ok(tried)
 }
 
-// Reads the files of names that fit together, so that this fails for want of memory alone.
+// Reads the files of names that fit together, so that this fails only for want of memory.
 fn read_again<D: FileSystem>(
     disk: &D,
     alloc: Global,
@@ -147,7 +147,7 @@ fn read_again<D: FileSystem>(
     }
 }
 
-// All files of some names and of whole paths behind them: those of the names, which were read, where there are no others.
+// All files of some names, followed by whole paths: those of the names, which were read already, where there are no whole paths.
 fn with_whole<D: FileSystem>(
     disk: &D,
     alloc: Global,
@@ -174,7 +174,7 @@ fn with_whole<D: FileSystem>(
     Ok((all, read))
 }
 
-// All files and folders below a folder of policy, and behind them those whose whole paths are asked for, by their names and read.
+// All files and folders below a folder of policy, followed by those whose whole paths are looked up, by their names and read.
 fn files_below<F: Folders, D: FileSystem>(
     folders: &F,
     disk: &D,
@@ -192,14 +192,14 @@ fn files_below<F: Folders, D: FileSystem>(
     Ok(found)
 }
 
-/// A folder of policy, of which all files and folders are found, as `names_below` does, and their bytes read, as `aa_start::gather_readable` does. So
-/// nothing that an include asks for is missing where it stands in the folder and isn't passed over, and nothing is taken of a file that includes one
-/// that can't be read. A file or folder that an include asks for by its whole path has this as a further name, behind all others. Of each file that is
-/// tried it is asked how its profiles are loaded, as `top_files` does. The language is the one by which they are to be read as policy.
+/// Reads a folder of policy: its files and folders are found as by `names_below`, and their bytes read as by `aa_start::gather_readable`. So
+/// nothing that an include looks up is missing where it exists in the folder and isn't passed over, and nothing is taken of a file that includes one
+/// that can't be read. A file or folder that an include looks up by its whole path has this as a further name, after all others. Of each file that
+/// is tried it is found how its profiles are loaded, as by `top_files`. The language is the one by which the files are to be read as policy.
 ///
 /// # Errors
 ///
-/// - `Unreadable` with the first folder that can't be read, or the first name that is none for a file, since it holds a byte below the space.
+/// - `Unreadable` with the first folder that can't be read, or the first name that is none for a file, since it has a byte below the space.
 /// - `TooMany` where there are more than 65,536 files and folders.
 /// - `NoMemory` where memory ran out.
 pub fn policy_below<'a, F: Folders, D: FileSystem>(

@@ -1,4 +1,4 @@
-//! The whole paths by which files of a folder of policy include others that stand in it.
+//! The whole paths by which files of a folder of policy include other files in it.
 
 ghost use Rattle.std.specs.Prelude.{◌≡◌, IfOk, List, Option, map, ℕ, string_bytes};
 ghost use Rattle.std.specs.Option.{option_map};
@@ -11,7 +11,7 @@ use aa_bytes::begins_with_byte;
 use aa_text_files::Files;
 use std::alloc::{AllocError, Global};
 
-// How the path of each file begins below the folder of a path, if one was found.
+// The beginning of the path of each file below the folder of a path, if one was found.
 fn found_front(alloc: Global, found: Option<String>) -> Result<Option<String>, AllocError>
     ensures { IfOk result (λ front. option_map string_bytes front ≡ option_map front_at (option_map string_bytes found)) }
 {
@@ -21,7 +21,7 @@ fn found_front(alloc: Global, found: Option<String>) -> Result<Option<String>, A
     }
 }
 
-// How the whole path of each file below a folder begins, if the folder has one.
+// The beginning of the whole path of each file below a folder, if the folder has one.
 fn front_of<F: Folders>(
     folders: &F,
     alloc: Global,
@@ -36,7 +36,7 @@ fn front_of<F: Folders>(
     found_front(alloc, found)
 }
 
-/// The whole paths of those names below a folder of policy that includes of its files ask for by them (`aatry_folder::whole_names`): by the path of
+/// The whole paths of those names below a folder of policy that includes of its files look up by them (`aatry_folder::whole_names`): by the path of
 /// the folder, where that is whole, and else by the one that it leads to.
 ///
 /// # Errors

@@ -8,11 +8,11 @@ use Rattle.aa_set_commands.specs.Lines.{is_line_feed}
 use Rattle.aatry_hints.specs.declared.colors.Color.{Color}
 use Rattle.aatry_hints.specs.declared.colors.Color.TheVariants.{Green, Red, Yellow}
 
--- the byte with which what a terminal obeys begins
+-- the byte with which a terminal's escape sequence begins
 abbrev pub escape : ℕ
 escape = 27
 
--- what has a terminal write in a colour from here on, and as before (ECMA-48, "Select Graphic Rendition")
+-- the escape sequence that sets a colour, and the one that resets it (ECMA-48, "Select Graphic Rendition")
 abbrev pub opening : Color → List ℕ
 opening Red = escape ∷ codes "[31m"
 opening Green = escape ∷ codes "[32m"
@@ -30,14 +30,15 @@ unindented (byte ∷ bytes) = if byte == space then unindented bytes else byte �
 abbrev pub has_word : List ℕ → List ℕ → Bool
 has_word word text = bytes_eq text word || (begins_with word text && begins_with_byte space (drop (length word) text))
 
--- the colour of a text: of what is more and of what is let green, of what is less and of what isn't let red, and of what is let and logged yellow
+-- the colour of a text: green for what is more and what is allowed, red for what is less and what isn't allowed, and yellow for what is let through
+-- in complain mode and logged
 abbrev pub color_of_text : List ℕ → Option Color
 color_of_text text =
     if begins_with (codes "+ ") text || has_word (codes "allow") text then Some Green else
     if begins_with (codes "- ") text || has_word (codes "deny") text || has_word (codes "refuse") text then Some Red else
     if has_word (codes "complain") text then Some Yellow else None
 
--- that of a line, which may be indented
+-- the colour of a line, which may be indented
 abbrev pub color_of : List ℕ → Option Color
 color_of line = color_of_text (unindented line)
 
@@ -49,11 +50,11 @@ painted (Some color) line = opening color ++ line ++ closing
 abbrev pub colored_line : List ℕ → List ℕ
 colored_line line = painted (color_of line) line ++ line_feed ∷ []
 
--- a line as it stands in a text
+-- a line with its end
 abbrev pub ended : List ℕ → List ℕ
 ended line = line ++ line_feed ∷ []
 
--- A text is these whole lines, in their order, and behind them the beginning of one, if there is any.
+-- A text is these whole lines, in their order, followed by the beginning of one, if there is any.
 pub record IsCut (text : List ℕ) (whole : List (List ℕ)) (rest : List ℕ) : Type 0 where
   pub text_is : text ≡ flat_map ended whole ++ rest
   pub each : All (λ line. list_any is_line_feed line ≡ false) whole
@@ -72,7 +73,7 @@ pub record IsColored (text shown : List ℕ) : Type 0 where
   pub cut : IsCut text whole rest
   pub shown_is : shown ≡ flat_map colored_line whole ++ rest
 
--- a text without what a terminal obeys, by whether it stands within such: from an escape to the letter that ends it
+-- a text without escape sequences, by whether it begins within one: from an escape to the letter that ends it
 abbrev pub letter_of_end : ℕ
 letter_of_end = 109
 

@@ -1,4 +1,4 @@
--- What is told of words that ask nothing, where it shows what was meant.
+-- The hints for words that ask for nothing, where it can be seen what was meant.
 use Rattle.std.specs.Prelude.{ℕ, Bool, false, if◌then◌else◌, List, [], ◌∷◌, ◌++◌, codes, Option, None, Some, unwrap_or}
 use Rattle.std.specs.List.{list_any}
 use Rattle.std.specs.Str.{bytes_eq}
@@ -11,7 +11,7 @@ use Rattle.aatry_hints.specs.Parts.{Part, command_in, last_behind, parts}
 use Rattle.aatry_hints.specs.Together.{together_hint}
 use Rattle.aatry_hints.specs.Values.{BadValue, bad_value_in, lacking, values_told}
 
--- a word is the pair by which a line of a log tells of a request
+-- a word is the pair that each audit line of a request has
 abbrev pub is_pair : List ℕ → Bool
 is_pair word = begins_with (codes "apparmor=") word
 
@@ -21,34 +21,34 @@ is_cut_line [] = false
 is_cut_line (line ∷ []) = false
 is_cut_line (word ∷ other ∷ words) = list_any is_pair (word ∷ other ∷ words)
 
--- the line that is told of such words
+-- the hint for such words
 abbrev pub cut_line_told : List ℕ
 cut_line_told = codes "aatry: a line of a log is one word, in quotes: aatry why 'LINE'; or pipe it into aatry log\n"
 
--- the line that is told of words, if they are such ones
+-- the hint for words, if they are such words
 abbrev pub cut_line : List (List ℕ) → Option (List ℕ)
 cut_line words = if is_cut_line words then Some cut_line_told else None
 
--- a name that was found for a word, if that is another
+-- a name that was found for a word, if it differs from the word
 abbrev pub other_than : List ℕ → Option (List ℕ) → Option (List ℕ)
 other_than word None = None
 other_than word (Some name) = if bytes_eq name word then None else Some name
 
--- the command that a word may have been meant for: none where it is one
+-- the command that a word may stand for: none where it is one
 abbrev pub command_meant : List ℕ → Option (List ℕ)
 command_meant word = other_than word (nearest word commands)
 
--- the line that is told of a word in the place of a command, if one may have been meant by it
+-- the hint for a word in place of a command, if it may stand for one
 abbrev pub no_command_told : List ℕ → Option (List ℕ) → Option (List ℕ)
 no_command_told word None = None
 no_command_told word (Some near) = Some (codes "aatry: no command is called " ++ shown word ++ codes ": did you mean " ++ shown near ++ codes "?\n")
 
--- that of a word that is no command, where one is near
+-- the hint for a word that is no command, where one is near
 abbrev pub misspelled_by : Option (List ℕ) → Option (List ℕ)
 misspelled_by None = None
 misspelled_by (Some word) = no_command_told word (command_meant word)
 
--- the line that is told of a name that no option has, and of the option that may have been meant
+-- the hint for a name that no option has, with the option that may have been meant
 abbrev pub no_option_told : List ℕ → Option (List ℕ) → List ℕ
 no_option_told name None = codes "aatry: there is no option " ++ shown name ++ codes "\n"
 no_option_told name (Some near) = codes "aatry: there is no option " ++ shown name ++ codes ": did you mean " ++ shown near ++ codes "?\n"
@@ -57,17 +57,17 @@ abbrev pub unknown_told : Option (List ℕ) → Option (List ℕ)
 unknown_told None = None
 unknown_told (Some name) = Some (no_option_told name (nearest name options))
 
--- the line that is told of a command and an option that it doesn't take, if there is one
+-- the hint for a command and an option that it doesn't take, if there is one
 abbrev pub not_taken_told : Option (List ℕ) → Option (List ℕ) → Option (List ℕ)
 not_taken_told (Some command) (Some name) = Some (codes "aatry: " ++ shown command ++ codes " takes no " ++ shown name ++ codes "\n")
 not_taken_told (Some command) None = None
 not_taken_told None name = None
 
--- the line that is told of an option whose value is missing
+-- the hint for an option whose value is missing
 abbrev pub wanted_told : List ℕ → List ℕ
 wanted_told name = codes "aatry: a value is wanted behind " ++ shown name ++ codes "\n"
 
--- the line that is told of an option with a value that it doesn't take, if there is one: an empty value is as good as missing
+-- the hint for an option with a value that it doesn't take, if there is one: an empty value counts as missing
 abbrev pub refused_told : List ℕ → List ℕ → List ℕ
 refused_told name value = codes "aatry: " ++ shown name ++ codes " takes " ++ values_told name ++ codes ", not " ++ shown value ++ codes "\n"
 
@@ -75,7 +75,7 @@ abbrev pub bad_value_told : Option BadValue → Option (List ℕ)
 bad_value_told None = None
 bad_value_told (Some bad) = Some (if is_empty bad.value then wanted_told bad.name else refused_told bad.name bad.value)
 
--- the line that is told where an option at the end lacks its value
+-- the hint for an option at the end that lacks its value
 abbrev pub no_value_told : Option (List ℕ) → Option (List ℕ)
 no_value_told None = None
 no_value_told (Some name) = Some (wanted_told name)
@@ -85,24 +85,24 @@ abbrev pub line_or : Option (List ℕ) → Option (List ℕ) → Option (List �
 line_or (Some line) other = Some line
 line_or None other = other
 
--- the line that is told of the values among parts, by the word in the place of a command: of one that its option doesn't take, or of one that is missing
+-- the hint for the values among parts, by the word in place of a command: for one that its option doesn't take, or one that is missing
 abbrev pub values_hint : Option (List ℕ) → List Part → Option (List ℕ)
 values_hint command parts =
     line_or (bad_value_told (bad_value_in (unwrap_or (own_options_by command) []) parts)) (no_value_told (lacking (last_behind None parts)))
 
--- the same of options that don't go together, and else of values
+-- the hint for options that don't go together, or else for values
 abbrev pub going_hint : Option (List ℕ) → List Part → Option (List ℕ)
 going_hint command parts = line_or (together_hint command parts) (values_hint command parts)
 
--- the same of options that the command doesn't take, and else of others
+-- the hint for options that the command doesn't take, or else for those that don't go together, or for values
 abbrev pub taken_hint : Option (List ℕ) → List Part → Option (List ℕ)
 taken_hint command parts = line_or (not_taken_told command (not_taken_by (own_options_by command) parts)) (going_hint command parts)
 
--- the same of options that there aren't, and else of others
+-- the hint for options that don't exist, or else for all other faults of options and values
 abbrev pub options_hint : Option (List ℕ) → List Part → Option (List ℕ)
 options_hint command parts = line_or (unknown_told (unknown_in parts)) (taken_hint command parts)
 
--- the line that is told of all words: of the command first, and else of the options
+-- the hint for all words: for the command first, or else for the options
 abbrev pub hint_of : List Part → Option (List ℕ)
 hint_of parts = line_or (misspelled_by (command_in parts)) (options_hint (command_in parts) parts)
 

@@ -1,4 +1,4 @@
--- Options of a command that go with a flag alone, or without it alone.
+-- Options of a command that go only with a flag, or only without it.
 use Rattle.std.specs.Prelude.{ℕ, if◌then◌else◌, List, [], ◌∷◌, ◌++◌, Option, Some, None, codes}
 use Rattle.std.specs.List.{list_any}
 use Rattle.std.specs.Str.{bytes_eq}
@@ -31,7 +31,7 @@ with_rules = record {
   only_without = [];
 }
 
--- that of a command, if it has one
+-- the flag of a command and its options, if it has one
 abbrev pub together_of : List ℕ → Option Together
 together_of command =
     if bytes_eq command (codes "diff") then Some with_all else if bytes_eq command (codes "check") then Some with_rules else None
@@ -42,7 +42,7 @@ first_of names [] = None
 first_of names (Given name value ∷ more) = if is_word_of names name then Some name else first_of names more
 first_of names (Plain word ∷ more) = first_of names more
 
--- the line that is told of one that needs the flag, if there is one, and of one that can't stand beside it
+-- the hint for an option that needs the flag, if there is one, and for one that can't be given with it
 abbrev pub needs_told : Together → Option (List ℕ) → Option (List ℕ)
 needs_told together None = None
 needs_told together (Some name) =
@@ -53,7 +53,7 @@ bars_told together None = None
 bars_told together (Some name) =
     Some (codes "aatry: " ++ together.command ++ codes " takes no " ++ shown name ++ codes " with " ++ together.flag ++ codes "\n")
 
--- the line that is told of the options of a command among parts
+-- the hint for the options of a command among parts
 abbrev pub together_told : List Part → Together → Option (List ℕ)
 together_told parts together =
     if list_any (is_given_as together.flag) parts then bars_told together (first_of together.only_without parts)
@@ -63,7 +63,7 @@ abbrev pub told_of : List Part → Option Together → Option (List ℕ)
 told_of parts None = None
 told_of parts (Some together) = together_told parts together
 
--- the same, by the word in the place of a command: of others there is none
+-- the hint by the word in place of a command: other commands have none
 abbrev pub together_hint : Option (List ℕ) → List Part → Option (List ℕ)
 together_hint None parts = None
 together_hint (Some command) parts = told_of parts (together_of command)

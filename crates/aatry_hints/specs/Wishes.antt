@@ -7,11 +7,11 @@ use Rattle.aatry_hints.specs.declared.wishes.ColorWish.{ColorWish}
 use Rattle.aatry_hints.specs.declared.wishes.ColorWish.TheVariants.{Always, AtTerminal, Never}
 use Rattle.aatry_hints.specs.declared.wishes.WithWish.{WithWish}
 
--- the option that says so
+-- the option for colours
 abbrev pub color_option : ValueOption
 color_option = record { word = codes "--color"; opening = codes "--color=" }
 
--- what a value wishes: of three words each one; without a value colours at a terminal
+-- the wish of a value: of three words each one; without a value colours at a terminal
 abbrev pub wish_of : List ℕ → Option ColorWish
 wish_of value =
     if bytes_eq value (codes "auto") then Some AtTerminal else
@@ -22,28 +22,28 @@ abbrev pub wish_named : Option (List ℕ) → Option ColorWish
 wish_named None = Some AtTerminal
 wish_named (Some value) = wish_of value
 
--- what words wish, and the words without that
+-- the wish of words, and the words without it
 pub record Wished : Type 0 where
   pub wish : ColorWish
   pub words : List (List ℕ)
 
--- that of the code
+-- the wish of the code
 abbrev pub seen_wished : WithWish → Wished
 seen_wished wished = record { wish = wished.wish; words = map string_bytes wished.words.items }
 
 abbrev pub wished_with : List (List ℕ) → ColorWish → Wished
 wished_with words wish = record { wish = wish; words = words }
 
--- what was read of the option
+-- the wish, by what was read of the option
 abbrev pub wished_by : Option WithValue → Option Wished
 wished_by None = None
 wished_by (Some read) = option_map (wished_with read.words) (wish_named read.value)
 
--- what words wish; nothing where the option has another value, or none
+-- the wish of words; nothing where the option has another value, or none
 abbrev pub wished : List (List ℕ) → Option Wished
 wished words = wished_by (value_of color_option words)
 
--- lines are in colours, by whether the terminal takes some
+-- lines are in colours, by whether the terminal takes colours
 abbrev pub is_colored : ColorWish → Bool → Bool
 is_colored AtTerminal takes = takes
 is_colored Always takes = true

@@ -9,18 +9,18 @@ use std::alloc::AllocError;
 /// A colour.
 #[derive(Clone, Copy)]
 pub enum Color {
-    /// Of what is less, and of what isn't let.
+    /// For what is less, and what isn't allowed.
     Red,
-    /// Of what is more, and of what is let.
+    /// For what is more, and what is allowed.
     Green,
-    /// Of what is let and logged.
+    /// For what is let through in complain mode and logged.
     Yellow,
 }
 
-// What has a terminal write as before.
+// The escape sequence that resets the colour.
 const CLOSING: &[u8] = b"\x1b[0m";
 
-// What has a terminal write in a colour from here on.
+// The escape sequence that sets a colour.
 fn opening(color: Color) -> &'static [u8]
     ensures { result.now ≡ opening color }
 {
@@ -74,7 +74,7 @@ fn color_of(line: &[u8]) -> Option<Color>
     color_of_text(unindented(line))
 }
 
-/// Appends a line without its end in its colour to a text, if it has one.
+/// Appends a line without its end to a text, in its colour, if it has one.
 ///
 /// # Errors
 ///

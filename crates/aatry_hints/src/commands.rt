@@ -1,4 +1,4 @@
-//! The commands, and the options of each; the first option among words that is none, or none of a command's.
+//! The commands, and the options of each; and the first option among words that is unknown, or that a command doesn't take.
 
 ghost use Rattle.std.specs.Prelude.{◌≡◌, map, option_map, string_bytes};
 ghost use Rattle.aatry_hints.specs.Commands.{is_taken, not_taken_by, not_taken_in, own_options, own_options_by, unknown_in};
@@ -12,10 +12,10 @@ pub const COMMANDS: [&str; 10] = [
     "check", "why", "log", "who", "never", "always", "reach", "diff", "session", "test",
 ];
 
-// The options that each of them takes.
+// The options that every command takes.
 const COMMON: [&str; 4] = ["--language", "--color", "--help", "-h"];
 
-// Those that one of them, or some, take beside these.
+// The options that a command, or some of them, take beside these.
 const CHECK: [&str; 6] = [
     "-b",
     "--json",
@@ -58,7 +58,7 @@ const SESSION: [&str; 1] = ["-b"];
 
 const TEST: [&str; 2] = ["-b", "--accept"];
 
-// The options that a command takes beside those that each takes; none where no command has the name.
+// The options that a command takes beside those of every command; `None` where no command has the name.
 fn own_options(command: &[u8]) -> Option<&'static [&'static str]>
     ensures { option_map (λ names. map (λ name. name.now) names.now) result ≡ own_options command.now }
 {
@@ -87,7 +87,7 @@ fn own_options(command: &[u8]) -> Option<&'static [&'static str]>
     }
 }
 
-/// The options that the command of a word takes beside those that each takes, if there is one. It takes no memory.
+/// The options that the command of a word takes beside those of every command, if there is one. It takes no memory.
 pub fn own_options_by(command: Option<&[u8]>) -> Option<&'static [&'static str]>
     ensures { option_map (λ names. map (λ name. name.now) names.now) result ≡ own_options_by (option_map (λ word. word.now) command.entry) }
 {
@@ -97,14 +97,14 @@ pub fn own_options_by(command: Option<&[u8]>) -> Option<&'static [&'static str]>
     }
 }
 
-/// Whether a command with such options of its own takes this one. It takes no memory.
+/// Whether a command with these options of its own takes an option. It takes no memory.
 pub fn is_taken(own: &[&str], name: &[u8]) -> bool
     ensures { result ≡ is_taken (map (λ name. name.now) own.now) name.now }
 {
     is_word_of(&COMMON, name) || is_word_of(own, name)
 }
 
-/// The name of the first option among some words by its form that is none. It takes no memory.
+/// The name of the first word that has the form of an option and is none. It takes no memory.
 pub fn unknown_in(words: &[String]) -> Option<&[u8]>
     ensures { option_map (λ name. name.now) result ≡ unknown_in (parts (map string_bytes words.now)) }
 {
@@ -120,7 +120,7 @@ pub fn unknown_in(words: &[String]) -> Option<&[u8]>
     None
 }
 
-// The first option among some words that a command with such options of its own doesn't take.
+// The first option among some words that a command with these options of its own doesn't take.
 fn not_taken_in<'a>(own: &[&str], words: &'a [String]) -> Option<&'a [u8]>
     ensures { option_map (λ name. name.now) result ≡ not_taken_in (map (λ name. name.now) own.now) (parts (map string_bytes words.now)) }
 {
@@ -136,7 +136,7 @@ fn not_taken_in<'a>(own: &[&str], words: &'a [String]) -> Option<&'a [u8]>
     None
 }
 
-/// The same where there is such a command. It takes no memory.
+/// The first option among some words that a command with these options of its own doesn't take, if there is such a command. It takes no memory.
 pub fn not_taken_by<'a>(own: Option<&[&str]>, words: &'a [String]) -> Option<&'a [u8]>
     ensures { option_map (λ name. name.now) result
         ≡ not_taken_by (option_map (λ names. map (λ name. name.now) names.now) own.entry) (parts (map string_bytes words.now)) }

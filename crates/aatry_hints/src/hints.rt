@@ -1,4 +1,4 @@
-//! What is told of the words of a log's line, and of a word in the place of a command.
+//! The hints for the words of a log's line, and for a word in place of a command.
 
 ghost use Rattle.std.specs.Prelude.{◌≡◌, IfOk, map, option_map, string_bytes};
 ghost use Rattle.std.specs.List.{list_any};
@@ -10,11 +10,11 @@ use aatry_report::push_shown;
 use aatry_words::nearest_text;
 use std::alloc::{AllocError, Global};
 
-// What is told of words into which a shell cut the line of a log.
+// The hint for words into which a shell cut the line of a log.
 const CUT_LINE: &[u8] =
     b"aatry: a line of a log is one word, in quotes: aatry why 'LINE'; or pipe it into aatry log\n";
 
-// Whether one of some words is the pair by which a line of a log tells of a request.
+// Whether one of some words begins with `apparmor=`, as each audit line has it.
 fn has_pair(words: &[String]) -> bool
     ensures { result ≡ list_any is_pair (map string_bytes words.now) }
 {
@@ -39,7 +39,7 @@ fn is_cut_line(words: &[String]) -> bool
     }
 }
 
-/// The line that is told of words behind `why` that ask no question, where they are those of a line of a log, into which a shell cut it. It takes no memory.
+/// The hint for words after `why` that make no question, where they are those of a line of a log, into which a shell cut it. It takes no memory.
 pub fn cut_line(words: &[String]) -> Option<&'static [u8]>
     ensures { option_map (λ line. line.now) result ≡ cut_line (map string_bytes words.now) }
 {
@@ -50,7 +50,7 @@ pub fn cut_line(words: &[String]) -> Option<&'static [u8]>
     }
 }
 
-// A name that was found for a word, if that is another.
+// A name that was found for a word, if it differs from the word.
 fn other_than<'a>(word: &[u8], found: Option<&'a [u8]>) -> Option<&'a [u8]>
     ensures { option_map (λ name. name.now) result ≡ other_than word.now (option_map (λ name. name.now) found.entry) }
 {
@@ -61,7 +61,7 @@ fn other_than<'a>(word: &[u8], found: Option<&'a [u8]>) -> Option<&'a [u8]>
     }
 }
 
-// The line that is told of a word in the place of a command, if one may have been meant by it.
+// The hint for a word in place of a command, if it may stand for one.
 fn no_command_told(
     alloc: Global,
     word: &[u8],
@@ -80,7 +80,7 @@ fn no_command_told(
     Ok(Some(line))
 }
 
-// The command that a word may have been meant for, where it is none.
+// The command that a word may stand for, where it is none.
 fn command_meant(alloc: Global, word: &[u8]) -> Result<Option<&'static [u8]>, AllocError>
     ensures { IfOk result (λ found. option_map (λ name. name.now) found ≡ command_meant word.now) }
 {
@@ -88,7 +88,7 @@ fn command_meant(alloc: Global, word: &[u8]) -> Result<Option<&'static [u8]>, Al
     Ok(other_than(word, found))
 }
 
-/// The line that is told of a word in the place of a command that is none and near to one, if there is such a word.
+/// The hint for a word in place of a command that is none and near to one, if there is such a word.
 ///
 /// # Errors
 ///

@@ -6,13 +6,14 @@ ghost use Rattle.aatry_hints.specs.Commands.{commands};
 ghost use Rattle.aatry_hints.specs.Laws.{go_as_told, refuses_others};
 ghost use Rattle.aatry_hints.specs.Together.{with_all, with_rules};
 
-/// With an option alone that it isn't said to take, of those that there are, a command asks for nothing. So what is told of such options is true.
+/// With only an option that a command isn't said to take, of those that exist, the command asks for nothing. So the hints on such options are true.
 pub fn what_commands_refuse()
     ensures { list_all refuses_others commands ≡ true }
 {}
 
-/// Behind `diff` and two folders, each option that is said to go with `--all` alone asks for something beside it, and for nothing without it; and each that is
-/// said to go without it alone asks for nothing beside it, and for something without it. So it is behind `check` and two files with `--rules`.
+/// After `diff` and two folders, each option that is said to go only with `--all` asks for something beside it, and for nothing without it; and each
+/// that is said to go only without it asks for nothing beside it, and for something without it. The same holds after `check` and two files with
+/// `--rules`.
 pub fn what_goes_together()
     ensures all { go_as_told with_all ≡ true }
     ensures rules { go_as_told with_rules ≡ true }

@@ -1,4 +1,4 @@
-//! What a terminal is shown beside what is told: lines in colours, where they are wanted, and of words that ask nothing what shows to be meant.
+//! What a terminal shows beside the reports: lines in colours, where they are wanted, and for words that ask for nothing a hint on what was meant.
 #![tactic(auto)]
 
 mod color_laws;

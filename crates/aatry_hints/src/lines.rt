@@ -1,4 +1,4 @@
-//! Texts of lines, in colours.
+//! Lines of text, in colours.
 
 ghost use Rattle.std.specs.Prelude.{◌≡◌, ◌++◌, ℕ, List, OnOk};
 ghost use Rattle.aatry_hints.specs.Colors.{IsColored, colored_line};
@@ -16,8 +16,8 @@ fn push_line(line: &[u8], out: &mut Vec<u8>) -> Result<(), AllocError>
     Ok(())
 }
 
-/// Appends a text to another, each of its whole lines in its colour: those that tell what is more, or what is let, in green, those that tell what is less,
-/// or what isn't let, in red, and those of `complain` in yellow (docs/aatry.md, "Colours"). What no line feed ends stays as it is.
+/// Appends a text to another, each of its whole lines in its colour: lines on what is more, or what is allowed, in green, lines on what is less, or
+/// what isn't allowed, in red, and those of `complain` in yellow (docs/aatry.md, "Colours"). What no line feed ends stays as it is.
 ///
 /// # Errors
 ///

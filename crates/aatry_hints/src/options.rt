@@ -1,4 +1,4 @@
-//! The options of all commands, by their names, and what stands of them in a word.
+//! The options of all commands, by their names, and the parts of an option's word.
 
 ghost use Rattle.std.specs.Prelude.{◌≡◌, ◌≤◌, length, map, option_map, take};
 ghost use Rattle.aatry_hints.specs.Options.{begins_as_one, is_known, is_option, is_read_ahead, is_read_ahead_by, is_word_of, name_in, size_ahead, value_behind_letter, value_behind_sign, value_in};
@@ -31,10 +31,10 @@ pub const OPTIONS: [&str; 22] = [
     "--version",
 ];
 
-// The others, by their letters.
+// The other options, by their letters.
 const LETTERS: [&str; 3] = ["-b", "-h", "-V"];
 
-/// Those that take a value.
+/// The options that take a value.
 pub const VALUED: [&str; 8] = [
     "-b",
     "--language",
@@ -46,10 +46,10 @@ pub const VALUED: [&str; 8] = [
     "--questions",
 ];
 
-/// Those of them whose value is a path.
+/// The options whose value is a path.
 pub const PATHS: [&str; 3] = ["-b", "--log", "--questions"];
 
-// Those that are read out of the words ahead of others, the first of them first.
+// The options that are read out of the words before all others, in this order.
 const READ_FIRST: [&str; 6] = [
     "--color",
     "--language",
@@ -94,14 +94,14 @@ fn begins_as_one(names: &[&str], word: &[u8]) -> bool
     false
 }
 
-/// Whether a word is an option by its form: a hyphen, and more behind it. It takes no memory.
+/// Whether a word has the form of an option: a hyphen, followed by more. It takes no memory.
 pub fn is_option(word: &[u8]) -> bool
     ensures { result ≡ is_option word.now }
 {
     begins_with(b"-", word) && word != b"-".as_slice()
 }
 
-// How many bytes of a word stand ahead of its first `=`, if there is one.
+// How many bytes of a word are before its first `=`; all, where it has none.
 fn size_ahead(word: &[u8]) -> usize
     ensures value { result ≡ size_ahead word.now }
     ensures within { result ≤ length word.now }
@@ -119,7 +119,7 @@ fn first_two(word: &[u8]) -> &[u8]
     }
 }
 
-/// The name of an option in its word: its letter, or what stands ahead of `=`. It takes no memory.
+/// The name of an option in its word: its letter, or what is before `=`. It takes no memory.
 pub fn name_in(word: &[u8]) -> &[u8]
     ensures { result.now ≡ name_in word.now }
 {
@@ -130,7 +130,7 @@ pub fn name_in(word: &[u8]) -> &[u8]
     }
 }
 
-// The value behind a letter, if something stands there.
+// The value after a letter, if there is one.
 fn value_behind_letter(rest: &[u8]) -> Option<&[u8]>
     ensures { option_map (λ value. value.now) result ≡ value_behind_letter rest.now }
 {
@@ -140,7 +140,7 @@ fn value_behind_letter(rest: &[u8]) -> Option<&[u8]>
     }
 }
 
-// The value behind `=`, if that stands there.
+// The value after `=`, if there is one.
 fn value_behind_sign(word: &[u8]) -> Option<&[u8]>
     ensures { option_map (λ value. value.now) result ≡ value_behind_sign word.now }
 {
@@ -162,7 +162,7 @@ pub fn value_in(word: &[u8]) -> Option<&[u8]>
     }
 }
 
-// Whether the second of two options is read ahead of the first, by the order of those that are read first.
+// Whether the second of two options is read before the first, by the order of those that are read first.
 fn is_read_ahead_by(names: &[&str], name: &[u8], other: &[u8]) -> bool
     ensures { result ≡ is_read_ahead_by (map (λ name. name.now) names.now) name.now other.now }
 {
@@ -179,7 +179,7 @@ fn is_read_ahead_by(names: &[&str], name: &[u8], other: &[u8]) -> bool
     false
 }
 
-/// Whether the second of two options is read out of the words ahead of the first. It takes no memory.
+/// Whether the second of two options is read out of the words before the first. It takes no memory.
 pub fn is_read_ahead(name: &[u8], other: &[u8]) -> bool
     ensures { result ≡ is_read_ahead name.now other.now }
 {

@@ -5,7 +5,8 @@ use std::alloc::{AllocError, Global};
 use std::io;
 use std::io::Write;
 
-/// A writer that shows the whole lines of each piece in their colours, where that is wished; else it is the writer that it is made of.
+/// A writer that writes the whole lines of each piece in their colours, where that is wanted; else it passes everything to the writer that it is
+/// made of.
 #[derive(Drop)]
 pub struct Painted<W> {
     writer: W,
@@ -41,7 +42,7 @@ impl<W: Write> Write for Painted<W> {
                 self.writer.write_all(&shown)?;
                 Ok(buf.len())
             }
-            // What there is no memory for is shown as it is.
+            // A piece for which there is no memory is written as it is.
             Err(_) => self.writer.write(buf),
         }
     }

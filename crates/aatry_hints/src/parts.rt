@@ -1,4 +1,4 @@
-//! What stands among the words of a start behind the program's own name: options with their values, and other words.
+//! The parts of the words of a start after the program's own name: options with their values, and other words.
 
 ghost use Rattle.std.specs.Prelude.{◌≡◌, ◌∷◌, [], ◌<◌, ◌≤◌, IfSome, MatchOption, None, length, map, option_map, string_bytes};
 ghost use Rattle.std.specs.List.{list_any};
@@ -7,7 +7,7 @@ ghost use Rattle.aatry_hints.specs.Seen.{seen_part};
 
 use crate::options::{PATHS, VALUED, is_option, is_read_ahead, is_word_of, name_in, value_in};
 
-/// What stands among words.
+/// A part of words.
 #[derive(Clone, Copy)]
 pub enum Part<'a> {
     /// An option, by its name and its value, if it has one.
@@ -16,14 +16,14 @@ pub enum Part<'a> {
     Plain(&'a [u8]),
 }
 
-// Whether behind a word none is an option.
+// Whether no word after this one is an option.
 fn ends_options(word: &[u8]) -> bool
     ensures { result ≡ ends_options word.now }
 {
     word == b"--".as_slice()
 }
 
-// Whether a word is looked at by itself, and not as the value of the option ahead of it.
+// Whether a word is read by itself, and not as the value of the option before it.
 fn stands_apart(option: &[u8], word: &[u8]) -> bool
     ensures { result ≡ stands_apart option.now word.now }
 {
@@ -34,7 +34,7 @@ fn stands_apart(option: &[u8], word: &[u8]) -> bool
     }
 }
 
-// Whether a word is the value of the option that is ahead of it.
+// Whether a word is the value of the option before it.
 fn is_value_behind(option: &[u8], word: &[u8]) -> bool
     ensures { result ≡ is_value_behind option.now word.now }
 {
@@ -52,7 +52,7 @@ fn part_of(word: &[u8]) -> Part<'_>
     }
 }
 
-// What a word and those behind it begin with, and the words behind that; nothing where none of them is an option or stands in the place of a command.
+// The first part of a word and the words after it, and the words after that part; `None` at `--`, which ends the parts.
 fn part_ahead<'a>(word: &'a [u8], behind: &'a [String]) -> Option<(Part<'a>, &'a [String])>
     ensures value { MatchOption result (parts (word.now ∷ map string_bytes behind.now) ≡ [])
         (λ read. parts (word.now ∷ map string_bytes behind.now) ≡ seen_part read.0 ∷ parts (map string_bytes read.1.now)) }
@@ -74,7 +74,7 @@ fn part_ahead<'a>(word: &'a [u8], behind: &'a [String]) -> Option<(Part<'a>, &'a
     }
 }
 
-/// The first part of some words, and the words behind it, if there is one ahead of `--`. It takes no memory.
+/// The first part of some words, and the words after it, if there is one before `--`. It takes no memory.
 pub fn first_part(words: &[String]) -> Option<(Part<'_>, &[String])>
     ensures value { MatchOption result (parts (map string_bytes words.now) ≡ [])
         (λ read. parts (map string_bytes words.now) ≡ seen_part read.0 ∷ parts (map string_bytes read.1.now)) }
@@ -86,7 +86,7 @@ pub fn first_part(words: &[String]) -> Option<(Part<'_>, &[String])>
     }
 }
 
-/// The word in the place of a command: the first that is no option, and no value of one. It takes no memory.
+/// The word in place of a command: the first that is no option, and no value of one. It takes no memory.
 pub fn command_in(words: &[String]) -> Option<&[u8]>
     ensures { option_map (λ word. word.now) result ≡ command_in (parts (map string_bytes words.now)) }
 {

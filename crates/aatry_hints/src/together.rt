@@ -1,4 +1,4 @@
-//! Options of a command that go with a flag alone, or without it alone: of `diff` with `--all`, and of `check` with `--rules`.
+//! Options of a command that go only with a flag, or only without it: of `diff` with `--all`, and of `check` with `--rules`.
 
 ghost use Rattle.std.specs.Prelude.{◌≡◌, IfOk, map, option_map, string_bytes};
 ghost use Rattle.aatry_hints.specs.Parts.{parts};
@@ -19,7 +19,7 @@ pub struct Together {
     pub flag: &'static str,
     /// The options that the command takes only with it.
     pub only_with: &'static [&'static str],
-    /// Those that it takes only without it.
+    /// The options that it takes only without it.
     pub only_without: &'static [&'static str],
 }
 
@@ -39,7 +39,7 @@ const WITH_RULES: Together = Together {
     only_without: &[],
 };
 
-// That of a command, if it has one.
+// The flag of a command and its options, if it has one.
 fn together_of(command: &[u8]) -> Option<Together>
     ensures { option_map seen_together result ≡ together_of command.now }
 {
@@ -68,7 +68,7 @@ fn first_of<'a>(names: &[&str], words: &'a [String]) -> Option<&'a [u8]>
     None
 }
 
-// The line that is told of an option that needs the flag, if there is one.
+// The hint for an option that needs the flag, if there is one.
 fn needs_told(
     alloc: Global,
     together: Together,
@@ -89,7 +89,7 @@ fn needs_told(
     Ok(Some(line))
 }
 
-// The line that is told of an option that can't stand beside it, if there is one.
+// The hint for an option that can't be given with the flag, if there is one.
 fn bars_told(
     alloc: Global,
     together: Together,
@@ -110,7 +110,7 @@ fn bars_told(
     Ok(Some(line))
 }
 
-// The line that is told of the options of a command among words.
+// The hint for the options of a command among words.
 fn together_told(
     alloc: Global,
     words: &[String],
@@ -125,7 +125,7 @@ fn together_told(
     }
 }
 
-/// The line that is told of an option that goes with a flag of the command alone, or without it alone, by the word in the place of a command, if there is one.
+/// The hint for an option that goes only with a flag of the command, or only without it, by the word in place of a command, if there is one.
 ///
 /// # Errors
 ///

@@ -1,4 +1,4 @@
-//! The line that is told of words that ask for nothing.
+//! The hint for words that ask for nothing.
 
 ghost use Rattle.std.specs.Prelude.{◌≡◌, [], IfOk, map, option_map, string_bytes, unwrap_or};
 ghost use Rattle.aatry_hints.specs.Commands.{own_options_by};
@@ -18,7 +18,7 @@ use aatry_report::push_shown;
 use aatry_words::nearest_text;
 use std::alloc::{AllocError, Global};
 
-// The line that is told of a name that no option has, and of the option that may have been meant.
+// The hint for a name that no option has, with the option that may have been meant.
 fn no_option_told(alloc: Global, name: &[u8], near: Option<&[u8]>) -> Result<Vec<u8>, AllocError>
     ensures { IfOk result (λ line. line.items ≡ no_option_told name.now (option_map (λ name. name.now) near.entry)) }
 {
@@ -34,14 +34,14 @@ fn no_option_told(alloc: Global, name: &[u8], near: Option<&[u8]>) -> Result<Vec
     Ok(line)
 }
 
-// The option that a name may have been meant for, if one is near.
+// The option that a name may stand for, if one is near.
 fn nearest_option(alloc: Global, name: &[u8]) -> Result<Option<&'static [u8]>, AllocError>
     ensures { IfOk result (λ found. option_map (λ option. option.now) found ≡ nearest name.now options) }
 {
     nearest_text(alloc, name, &OPTIONS)
 }
 
-// The line that is told of a name that no option has, if there is one.
+// The hint for a name that no option has, if there is one.
 fn unknown_told(alloc: Global, name: Option<&[u8]>) -> Result<Option<Vec<u8>>, AllocError>
     ensures { IfOk result (λ line. option_map (λ line. line.items) line ≡ unknown_told (option_map (λ name. name.now) name.entry)) }
 {
@@ -55,7 +55,7 @@ fn unknown_told(alloc: Global, name: Option<&[u8]>) -> Result<Option<Vec<u8>>, A
     }
 }
 
-// The line that is told of a command and an option that it doesn't take, if there is one.
+// The hint for a command and an option that it doesn't take, if there is one.
 fn not_taken_told(
     alloc: Global,
     command: Option<&[u8]>,
@@ -78,7 +78,7 @@ fn not_taken_told(
     Ok(Some(line))
 }
 
-// The line that is told of an option whose value is missing.
+// The hint for an option whose value is missing.
 fn wanted_told(alloc: Global, name: &[u8]) -> Result<Vec<u8>, AllocError>
     ensures { IfOk result (λ line. line.items ≡ wanted_told name.now) }
 {
@@ -88,7 +88,7 @@ fn wanted_told(alloc: Global, name: &[u8]) -> Result<Vec<u8>, AllocError>
     Ok(line)
 }
 
-// The line that is told of an option with a value that it doesn't take.
+// The hint for an option with a value that it doesn't take.
 fn refused_told(alloc: Global, name: &[u8], value: &[u8]) -> Result<Vec<u8>, AllocError>
     ensures { IfOk result (λ line. line.items ≡ refused_told name.now value.now) }
 {
@@ -102,7 +102,7 @@ fn refused_told(alloc: Global, name: &[u8], value: &[u8]) -> Result<Vec<u8>, All
     Ok(line)
 }
 
-// The same, if there is one: an empty value is as good as missing.
+// The hint for an option with a value that it doesn't take, if there is one: an empty value counts as missing.
 fn bad_value_told(alloc: Global, bad: Option<BadValue<'_>>) -> Result<Option<Vec<u8>>, AllocError>
     ensures { IfOk result (λ line. option_map (λ line. line.items) line ≡ bad_value_told (option_map seen_bad bad.entry)) }
 {
@@ -115,7 +115,7 @@ fn bad_value_told(alloc: Global, bad: Option<BadValue<'_>>) -> Result<Option<Vec
     Ok(Some(refused_told(alloc, name, value)?))
 }
 
-// The line that is told where an option at the end lacks its value.
+// The hint for an option at the end that lacks its value.
 fn no_value_told(alloc: Global, name: Option<&[u8]>) -> Result<Option<Vec<u8>>, AllocError>
     ensures { IfOk result (λ line. option_map (λ line. line.items) line ≡ no_value_told (option_map (λ name. name.now) name.entry)) }
 {
@@ -125,7 +125,7 @@ fn no_value_told(alloc: Global, name: Option<&[u8]>) -> Result<Option<Vec<u8>>, 
     }
 }
 
-// The line that is told of the values among words, by the word in the place of a command, if there is one.
+// The hint for the values among words, by the word in place of a command, if there is one.
 fn values_hint(
     alloc: Global,
     command: Option<&[u8]>,
@@ -141,7 +141,7 @@ fn values_hint(
     }
 }
 
-// The same of options that don't go together, and else of values.
+// The hint for options that don't go together, or else for values.
 fn going_hint(
     alloc: Global,
     command: Option<&[u8]>,
@@ -156,7 +156,7 @@ fn going_hint(
     }
 }
 
-// The same of options that the command doesn't take, and else of others.
+// The hint for options that the command doesn't take, or else for those that don't go together, or for values.
 fn taken_hint(
     alloc: Global,
     command: Option<&[u8]>,
@@ -172,7 +172,7 @@ fn taken_hint(
     }
 }
 
-// The same of options that there aren't, and else of others.
+// The hint for options that don't exist, or else for all other faults of options and values.
 fn options_hint(
     alloc: Global,
     command: Option<&[u8]>,
@@ -187,10 +187,10 @@ fn options_hint(
     }
 }
 
-/// The line that is told of the words of a start behind the program's own name that ask for nothing, if it shows what was meant. It is of the first of these
-/// that there is: a word in the place of a command that is none and near to one; a word of an option's form that is none; an option that the command doesn't
-/// take; one of `diff` that goes with `--all` alone, or without it alone; an option with a value that it doesn't take; and an option at the end that lacks its
-/// value.
+/// The hint for the words of a start after the program's own name that ask for nothing, if it can be seen what was meant. It is for the first of
+/// these that there is: a word in place of a command that is none and near to one; a word of an option's form that is none; an option that the
+/// command doesn't take; one of `diff` that goes only with `--all`, or only without it; an option with a value that it doesn't take; and an option
+/// at the end that lacks its value.
 ///
 /// # Errors
 ///

@@ -1,4 +1,4 @@
-//! The values of options: which are some, and the first that is none.
+//! The values of options: which are valid, and the first that isn't.
 
 ghost use Rattle.std.specs.Prelude.{◌≡◌, is_some, map, option_map, string_bytes};
 ghost use Rattle.aatry_hints.specs.Wishes.{wish_of};
@@ -21,14 +21,14 @@ pub struct BadValue<'a> {
     pub value: &'a [u8],
 }
 
-// Whether a value wishes something for colours.
+// Whether a value is one of `--color`.
 fn is_wish(value: &[u8]) -> bool
     ensures { result ≡ is_some (wish_of value.now) }
 {
     value == b"auto".as_slice() || value == b"always".as_slice() || value == b"never".as_slice()
 }
 
-// Whether a value is one that an option takes, by what is read of it.
+// Whether a value is one that an option takes; of an option that isn't checked here each is.
 fn is_value_of(name: &[u8], value: &[u8]) -> bool
     ensures { result ≡ is_value_of name.now value.now }
 {
@@ -45,7 +45,7 @@ fn is_value_of(name: &[u8], value: &[u8]) -> bool
     }
 }
 
-/// What such an option takes, in words. It takes no memory.
+/// The values that an option takes, in words. It takes no memory.
 pub fn values_told(name: &[u8]) -> &'static [u8]
     ensures { result.now ≡ values_told name.now }
 {
@@ -60,14 +60,15 @@ pub fn values_told(name: &[u8]) -> &'static [u8]
     }
 }
 
-// Whether the value of an option counts ahead of some words: where it is given again, the last does; but each language has to be one.
+// Whether the value of an option counts before some words: where it is given again, the last does; but each language has to be one.
 fn counts_ahead_of(words: &[String], name: &[u8]) -> bool
     ensures { result ≡ counts_ahead_of (parts (map string_bytes words.now)) name.now }
 {
     name == b"--language".as_slice() || !is_given(name, words)
 }
 
-// Whether the value of an option ahead of some words counts, and is none that the option takes, which a command with such options of its own takes.
+// Whether the value of an option before some words counts, and isn't one that the option takes, and whether a command with these options of its own
+// takes the option.
 #[tactic(auto, unfolding(crate::specs::Values::is_bad))]
 fn is_bad(own: &[&str], behind: &[String], name: &[u8], value: &[u8]) -> bool
     ensures { result ≡ is_bad (map (λ name. name.now) own.now) (parts (map string_bytes behind.now)) name.now value.now }
@@ -75,7 +76,7 @@ fn is_bad(own: &[&str], behind: &[String], name: &[u8], value: &[u8]) -> bool
     is_taken(own, name) && !is_value_of(name, value) && counts_ahead_of(behind, name)
 }
 
-// The option of a part ahead of some words, with its value, if that is such a one.
+// The option of a part before some words, with its value, if that counts and the option doesn't take it.
 fn bad_value_of<'a>(own: &[&str], part: Part<'a>, behind: &[String]) -> Option<BadValue<'a>>
     ensures { option_map seen_bad result ≡ bad_value_of (map (λ name. name.now) own.now) (seen_part part.entry) (parts (map string_bytes behind.now)) }
 {
@@ -87,8 +88,8 @@ fn bad_value_of<'a>(own: &[&str], part: Part<'a>, behind: &[String]) -> Option<B
     }
 }
 
-/// The first option among some words with a value that counts, and that it doesn't take, of those that a command with such options of its own takes. It takes
-/// no memory.
+/// The first option among some words with a value that counts, and that it doesn't take, of the options that a command with these options of its own
+/// takes. It takes no memory.
 pub fn bad_value_in<'a>(own: &[&str], words: &'a [String]) -> Option<BadValue<'a>>
     ensures { option_map seen_bad result ≡ bad_value_in (map (λ name. name.now) own.now) (parts (map string_bytes words.now)) }
 {
@@ -102,7 +103,7 @@ pub fn bad_value_in<'a>(own: &[&str], words: &'a [String]) -> Option<BadValue<'a
     None
 }
 
-/// An option that lacks the value that it takes, if this part is one. It takes no memory.
+/// The name of an option that lacks the value that it takes, if this part is one. It takes no memory.
 pub fn lacking(part: Option<Part<'_>>) -> Option<&[u8]>
     ensures { option_map (λ name. name.now) result ≡ lacking (option_map seen_part part.entry) }
 {

@@ -19,7 +19,7 @@ pub enum ColorWish {
     Never,
 }
 
-/// What words wish, and the words without that.
+/// The wish of words for colours, and the words without it.
 #[derive(Drop)]
 pub struct WithWish {
     /// The wish.
@@ -28,13 +28,13 @@ pub struct WithWish {
     pub words: Vec<String>,
 }
 
-// The option that says so.
+// The option for colours.
 const COLOR: NamedOption = NamedOption {
     word: "--color",
     opening: "--color=",
 };
 
-// What a value wishes.
+// The wish of a value; `None` where it is no valid one.
 fn wish_of(value: &[u8]) -> Option<ColorWish>
     ensures { result ≡ wish_of value.now }
 {
@@ -49,7 +49,7 @@ fn wish_of(value: &[u8]) -> Option<ColorWish>
     }
 }
 
-// The same of a value that may be missing.
+// The wish of a value; at a terminal, where it is missing.
 fn wish_named(value: &Option<Vec<u8>>) -> Option<ColorWish>
     ensures { result ≡ wish_named (option_map (λ value. value.items) value.now) }
 {
@@ -59,7 +59,7 @@ fn wish_named(value: &Option<Vec<u8>>) -> Option<ColorWish>
     }
 }
 
-// What was read of the option.
+// The wish, by what was read of the option.
 fn wished_by(read: Option<WithValue>) -> Option<WithWish>
     ensures { option_map seen_wished result ≡ wished_by (option_map seen_value read) }
 {
@@ -70,8 +70,8 @@ fn wished_by(read: Option<WithValue>) -> Option<WithWish>
     })
 }
 
-/// What words say of colours, ahead of the first `--`, and the words without that: by `--color` and `auto`, `always` or `never` in the next word, or behind
-/// a `=` in the same. Where it is said again, the last counts. None where another word stands there, or none.
+/// The wish of words for colours, before the first `--`, and the words without it: by `--color` and `auto`, `always` or `never` in the next word, or
+/// after a `=` in the same. Where it is given again, the last counts. `None` where the value is missing or another.
 ///
 /// # Errors
 ///
@@ -83,7 +83,7 @@ pub fn wished(alloc: Global, words: &[String]) -> Result<Option<WithWish>, Alloc
     Ok(wished_by(read))
 }
 
-/// Whether lines are to be in colours, by whether they go to a terminal that takes some. It takes no memory.
+/// Whether lines are to be in colours, by whether they go to a terminal that takes colours. It takes no memory.
 pub fn is_colored(wish: ColorWish, takes_colors: bool) -> bool
     ensures { result ≡ is_colored wish takes_colors }
 {

@@ -1,5 +1,4 @@
--- What is told of lines of logs that stand apart from the questions: those that can't be read, those of which the kernel knew no whole path, and those of
--- learning profiles.
+-- Lines of logs that make no question: those that can't be read, those of which the kernel knew no whole path, and those of learning profiles.
 use Rattle.std.specs.Prelude.{ℕ, List, [], ◌∷◌, ◌++◌, Option, None, Some, codes, flat_map}
 use Rattle.std.specs.Fmt.{decimal}
 use Rattle.serde_json.specs.Data.{Members}
@@ -11,12 +10,12 @@ use Rattle.aatry_report.specs.Shown.{shown}
 use Rattle.aatry_report.specs.declared.form.Form.{Form}
 use Rattle.aatry_report.specs.declared.form.Form.TheVariants.{Lines, Records}
 
--- where a line stands: the path of its log and its number in it, or its number alone of standard input
+-- the place of a line: the path of its log and its number in it, or its number alone of standard input
 abbrev pub place_text : Option (List ℕ) → ℕ → List ℕ
 place_text None line = codes "line " ++ decimal line
 place_text (Some file) line = shown file ++ codes ":" ++ decimal line
 
--- a line as it is shown, behind the word of its kind
+-- a line as it is shown, after the word of its kind
 abbrev pub told_line : List ℕ → KeptLine → List ℕ
 told_line kind line = place_text line.file line.line ++ codes ": " ++ kind ++ codes ": " ++ shown line.text ++ line_feed ∷ []
 
@@ -25,20 +24,20 @@ abbrev pub with_file : Option (List ℕ) → Members → Members
 with_file None members = members
 with_file (Some file) members = with_text (codes "file") file members
 
--- the same line as a record of that kind
+-- the record of a line of that kind
 abbrev pub line_record : List ℕ → KeptLine → Members
 line_record kind line = with_text (codes "text") line.text (with_number (codes "line") line.line (with_file line.file (record_of kind)))
 
--- what is told of such a line, in a form
+-- the line or record of such a line
 abbrev pub line_text : Form → List ℕ → KeptLine → List ℕ
 line_text Lines kind line = told_line kind line
 line_text Records kind line = record_line (line_record kind line)
 
--- what is told of such lines, in their order
+-- such lines, in their order
 abbrev pub kept_text : Form → List ℕ → List KeptLine → List ℕ
 kept_text form kind lines = flat_map (line_text form kind) lines
 
--- what is told of those of logs that stand apart, kind by kind
+-- the lines of logs that make no question, kind by kind
 abbrev pub apart_text : Form → LogRequests → List ℕ
 apart_text form logs =
     kept_text form (codes "unreadable") logs.unreadable.first ++ kept_text form (codes "disconnected") logs.disconnected.first

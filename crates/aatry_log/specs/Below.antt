@@ -1,4 +1,4 @@
--- What logs come to, asked of a folder of policy on a disk.
+-- The report on logs, asked of a folder of policy on disk.
 use Rattle.std.specs.Prelude.{ℕ, Bool, List, Option}
 use Rattle.aa_profile_parsing.specs.declared.language.Language.{Language}
 use Rattle.aa_text_files.specs.Files.{File}
@@ -17,13 +17,13 @@ use Rattle.aatry_logs.specs.LogRequests.{LogRequests, nothing}
 use Rattle.aatry_policy.specs.Folders.{folder_at}
 use Rattle.aatry_report.specs.declared.form.Form.{Form}
 
--- the selection of the lines that are asked for
+-- the selection of the lines that count
 abbrev pub selection_by : LogLinesAsked → Selection
 selection_by lines = record { denied = lines.denied; profile = lines.profile; since = lines.since }
 
--- The requests of all logs that are named, of the lines that are asked for, were asked of the files at the top of the folder, with all that lies below
--- it, by a language: the text tells what they come to, or the rules with which they are allowed, and it is noted what
--- the answers don't cover. One failed where the logs don't pass.
+-- The requests of all named logs, of their selected lines, were asked of the files at the top of the folder, with all that lies below it, by a
+-- language: the text has the answers, or the rules that allow them, and it is noted what the answers don't cover. One failed where the logs don't
+-- pass.
 pub record IsLogToldBelow (form : Form) (verbose : Bool) (language : Language) (folders : ToldFolders) (known : Known) (left : Option (List ℕ)) (asked : LogsAsked)
     (report : Report) : Type 0 where
   pub files : List File

@@ -1,4 +1,4 @@
--- With which faults it may end to ask a folder of policy by logs.
+-- The faults with which asking a folder of policy by logs may end.
 use Rattle.std.specs.Prelude.{◌⊎◌}
 use Rattle.aa_start.specs.Known.{Known}
 use Rattle.aatry_arguments.specs.LogWords.{LogsAsked}

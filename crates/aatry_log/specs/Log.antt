@@ -1,4 +1,4 @@
--- What logs come to, asked of a folder of policy.
+-- The report on logs, asked of a folder of policy.
 use Rattle.std.specs.Prelude.{◌≡◌, ◌==◌, ◌&&◌, ◌||◌, ℕ, Bool, not, List, ◌++◌}
 use Rattle.aatry_folder.specs.Reports.{Report, failed_by}
 use Rattle.aatry_log.specs.Apart.{apart_text}
@@ -9,13 +9,13 @@ use Rattle.aatry_logs.specs.LogRequests.{LogRequests}
 use Rattle.aatry_policy.specs.Folders.{Folder, left_out_in, left_out_note}
 use Rattle.aatry_report.specs.declared.form.Form.{Form}
 
--- Logs pass, unless they are taken strictly: then each of their lines that tells something and is asked for can be read, and each who asks is in the folder.
+-- Logs pass, unless they are taken strictly: then each of their selected lines that holds something can be read, and each asker is in the folder.
 abbrev pub passes : Bool → LogRequests → ℕ → Bool
 passes strict logs nobody = not strict || (logs.requests.unreadable == 0 && nobody == 0)
 
--- A report tells what is left out of a folder, at length or not, each request of logs with what the folder answers to it, the first lines that stand apart
--- from the questions, and what sums up. It is noted how many files are left out, how many lines stand apart, and how many questions are of nobody. One
--- failed where the logs don't pass.
+-- A report has what is left out of a folder, verbose or not, each request of logs with the folder's answer, the first lines that make no question,
+-- and the summary. It is noted how many files are left out, how many lines make no question, and how many questions have no asker. One failed where
+-- the logs don't pass.
 pub record IsLogTold (form : Form) (verbose : Bool) (folder : Folder) (strict : Bool) (logs : LogRequests) (report : Report) : Type 0 where
   pub requests : List ℕ
   pub nobody : ℕ

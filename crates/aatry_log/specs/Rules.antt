@@ -1,4 +1,4 @@
--- The rules with which the requests of logs are allowed, asked of a folder of policy.
+-- The rules that allow the requests of logs, asked of a folder of policy.
 use Rattle.std.specs.Prelude.{◌≡◌, ℕ, Bool, true, false, List, ◌++◌, codes}
 use Rattle.aatry_arguments.specs.LogWords.{LogTellingAsked}
 use Rattle.aatry_folder.specs.Reports.{Report, failed_by}
@@ -12,13 +12,13 @@ use Rattle.aatry_logs.specs.LogRequests.{LogRequests}
 use Rattle.aatry_policy.specs.Folders.{Folder, left_out_in, left_out_note}
 use Rattle.aatry_report.specs.declared.form.Form.{Form}
 
--- what was told, on lines as comments
+-- lines as comments
 abbrev pub aside : Form → List ℕ → List ℕ
 aside form text = prefixed_text form (codes "# ") text
 
--- A report tells the rules with which the requests of logs are allowed that lack something of a folder, with wider ones where these are asked for, and on
--- lines as comments what is left out before them, and behind them the first lines that stand apart, and what sums up. It notes what is noted of logs, and
--- one failed where they don't pass.
+-- A report has the rules that allow the requests of logs which lack something of a folder, with wider ones where these are asked for, and on lines
+-- as comments what is left out before them, and after them the first lines that make no question, and the summary. It has the notes on logs, and one
+-- failed where they don't pass.
 pub record AreLogRulesTold (telling : LogTellingAsked) (form : Form) (verbose : Bool) (folder : Folder) (logs : LogRequests) (report : Report) : Type 0 where
   pub rules : List ℕ
   pub nobody : ℕ
@@ -27,11 +27,11 @@ pub record AreLogRulesTold (telling : LogTellingAsked) (form : Form) (verbose : 
   pub noted : report.notes ≡ left_out_note folder ++ logs_note logs nobody
   pub counted : report.failed ≡ failed_by (passes telling.strict logs nobody)
 
--- a report tells these rules, or else the answers
+-- a report has these rules, or else the answers
 abbrev pub IsAnswered : (rules : Bool) → LogTellingAsked → Form → Bool → Folder → LogRequests → Report → Type 0
 IsAnswered true telling form verbose folder logs report = AreLogRulesTold telling form verbose folder logs report
 IsAnswered false telling form verbose folder logs report = IsLogTold form verbose folder telling.strict logs report
 
--- as it is asked for
+-- the report is the one that is asked for
 abbrev pub IsLogAnswered : LogTellingAsked → Form → Bool → Folder → LogRequests → Report → Type 0
 IsLogAnswered telling form verbose folder logs report = IsAnswered telling.rules telling form verbose folder logs report

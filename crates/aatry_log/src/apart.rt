@@ -1,4 +1,4 @@
-//! What is told of lines that stand apart from the questions of logs.
+//! The report on lines of logs that make no question.
 
 ghost use Rattle.std.specs.Prelude.{◌≡◌, ◌++◌, IfOk, OnOk, option_map, string_bytes};
 ghost use Rattle.aatry_log.specs.Apart.{apart_text, kept_text, line_record, line_text, place_text, told_line, with_file};
@@ -10,7 +10,7 @@ use aatry_logs::{KeptLine, LogRequests};
 use aatry_report::{Form, Record, Teller, push_number, push_shown};
 use std::alloc::{AllocError, Global};
 
-// Appends where a line stands to a text.
+// Appends the place of a line to a text.
 fn push_place(file: &Option<String>, line: u64, out: &mut Vec<u8>) -> Result<(), AllocError>
     ensures { OnOk result (out.new.items ≡ out.old.items ++ place_text (option_map string_bytes file.now) line) }
 {
@@ -21,7 +21,7 @@ fn push_place(file: &Option<String>, line: u64, out: &mut Vec<u8>) -> Result<(),
     push_number(out, ":", line as usize)
 }
 
-// Appends a line, behind the word of its kind, to a text.
+// Appends a line to a text, after the word of its kind.
 fn push_line(kind: &str, line: &KeptLine, out: &mut Vec<u8>) -> Result<(), AllocError>
     ensures { OnOk result (out.new.items ≡ out.old.items ++ told_line kind.now (seen_kept line.now)) }
 {
@@ -55,7 +55,7 @@ fn line_record(alloc: Global, kind: &str, line: &KeptLine) -> Result<Record, All
     Ok(made)
 }
 
-// Appends what is told of a line to a text.
+// Appends the line or record on a kept line to a text.
 fn push_told(
     teller: Teller,
     kind: &str,
@@ -70,7 +70,7 @@ fn push_told(
     }
 }
 
-// Appends what is told of lines of a kind to a text, in their order.
+// Appends the kept lines of a kind to a text, in their order.
 fn push_kept(
     teller: Teller,
     kind: &str,
@@ -85,10 +85,10 @@ fn push_kept(
     Ok(())
 }
 
-/// Appends what is told of the lines of logs that stand apart from the questions to a text: of the first that can't be read, then of those of which the
-/// kernel knew no whole path, and then of those of learning profiles. Of each that is a line with the path of its log, where that is no standard input, its
-/// number in it, its kind and its first bytes, as they are shown; or a record of the kind `unreadable`, `disconnected` or `learning` with the texts `file`
-/// and `text` and the number `line`.
+/// Appends the lines of logs that make no question to a text: first those that can't be read, then those of which the kernel knew no whole path, and
+/// then those of learning profiles. Each is a line with the path of its log, where that isn't standard input, its number in it, its kind and its
+/// first bytes, as they are shown; or a record of the kind `unreadable`, `disconnected` or `learning` with the texts `file` and `text` and the
+/// number `line`.
 ///
 /// # Errors
 ///

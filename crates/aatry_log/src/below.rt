@@ -1,4 +1,4 @@
-//! Logs, asked of a folder of policy on a disk.
+//! Logs, asked of a folder of policy on disk.
 
 ghost use Rattle.std.specs.Prelude.{◌≡◌, ◌≤◌, ◌^◌, IfErr, IfOk};
 ghost use Rattle.aatry_arguments.specs.Given.{meant_lines, meant_logs};
@@ -18,7 +18,7 @@ use aatry_log_lines::Selection;
 use aatry_logs::{gather_logs, meant_paths};
 use aatry_report::Teller;
 
-// Which lines are asked for.
+// Which lines count.
 fn selection_of(lines: &LogLines) -> Selection<'_>
     ensures { seen_selection result ≡ selection_by (meant_lines lines.now) }
 {
@@ -32,8 +32,9 @@ fn selection_of(lines: &LogLines) -> Selection<'_>
     }
 }
 
-/// What the policy of a folder, read by a language, answers now to what logs asked: reads the folder as `aatry_folder::policy_below` does, and then
-/// the logs that are named, or standard input where none is, and tells them as `log` does, or as `log_rules` where rules are asked for.
+/// The present answers of the policy of a folder, read by a language, to the requests of logs. The folder is read as by
+/// `aatry_folder::policy_below`, and then the given logs, or standard input where none is given; the report is that of `log`, or of `log_rules`
+/// where rules are asked for.
 ///
 /// # Errors
 ///

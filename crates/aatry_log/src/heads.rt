@@ -1,4 +1,4 @@
-//! What is told of a request by itself.
+//! The heading of a request.
 
 ghost use Rattle.std.specs.Prelude.{◌≡◌, ◌++◌, IfOk, OnOk, codes};
 ghost use Rattle.aatry_log.specs.Requests.{head_text, last_text, request_line, request_record, span_text, with_span};
@@ -13,7 +13,7 @@ use aatry_requests::{Span, Tally, push_question, push_times};
 use aatry_words::push_time;
 use std::alloc::{AllocError, Global};
 
-// Appends the last time to a text, where it isn't the first.
+// Appends the last time to a text, where it differs from the first.
 fn push_last(out: &mut Vec<u8>, span: Span) -> Result<(), AllocError>
     ensures { OnOk result (out.new.items ≡ out.old.items ++ last_text span) }
 {
@@ -24,7 +24,7 @@ fn push_last(out: &mut Vec<u8>, span: Span) -> Result<(), AllocError>
     push_time(out, span.last)
 }
 
-// Appends when a request came to a text, where that is known.
+// Appends when a request occurred to a text, where that is known.
 fn push_span(out: &mut Vec<u8>, span: Option<Span>) -> Result<(), AllocError>
     ensures { OnOk result (out.new.items ≡ out.old.items ++ span_text span) }
 {
@@ -59,7 +59,7 @@ fn put_time(alloc: Global, name: &str, time: u64, into: &mut Record) -> Result<(
     into.put_text(alloc, name, &text)
 }
 
-// Puts when a request came into a record, as `first` and `last`, where that is known.
+// Puts when a request occurred into a record, as `first` and `last`, where that is known.
 fn put_span(alloc: Global, span: Option<Span>, into: &mut Record) -> Result<(), AllocError>
     ensures { OnOk result (seen_record into.new ≡ with_span span (seen_record into.old)) }
 {
@@ -90,8 +90,8 @@ fn request_record(alloc: Global, tally: &Tally<'_>) -> Result<Record, AllocError
     Ok(made)
 }
 
-/// Appends what is told of a request by itself to a text: a line with how often it came, when, and the question that it asks, or a record of the kind
-/// `request` with the text `question`, the number `times`, and the texts `first` and `last` where times are known.
+/// Appends the heading of a request to a text: a line with how often it occurred, when, and its question, or a record of the kind `request` with the
+/// text `question`, the number `times`, and the texts `first` and `last` where times are known.
 ///
 /// # Errors
 ///

@@ -1,4 +1,4 @@
-//! The command `log`: the requests of logs, each with what the policy of a folder answers to it now, and the rules behind the answer.
+//! The command `log`: the requests of logs, each with the present answer of a folder's policy, and the rules that decide it.
 #![tactic(auto)]
 
 mod apart;

@@ -1,4 +1,4 @@
-//! What is noted of logs beside what is told of them.
+//! The notes on logs beside the report.
 
 ghost use Rattle.std.specs.Prelude.{◌≡◌, ◌++◌, OnOk};
 ghost use Rattle.aatry_log.specs.Notes.{apart_note, disconnected_note, interpreted_note, learning_note, logs_note, nobody_note, note_line, number_words};
@@ -9,7 +9,7 @@ use aatry_logs::LogRequests;
 use aatry_requests::push_number;
 use std::alloc::AllocError;
 
-// Appends the words that go with a number to a text: those of one, or the number and those of several.
+// Appends the words for a number to a text: those for one, or the number and those for several.
 fn push_words(number: u64, one: &[u8], several: &[u8], out: &mut Vec<u8>) -> Result<(), AllocError>
     ensures { OnOk result (out.new.items ≡ out.old.items ++ number_words number one.now several.now) }
 {
@@ -19,7 +19,7 @@ fn push_words(number: u64, one: &[u8], several: &[u8], out: &mut Vec<u8>) -> Res
     push_number(out, number, several)
 }
 
-// Appends a line of such words to a text, where there is something to note.
+// Appends a line of such words to a text, where the number isn't 0.
 fn push_note_line(
     number: u64,
     one: &[u8],
@@ -49,7 +49,7 @@ fn push_unreadable_note(number: u64, out: &mut Vec<u8>) -> Result<(), AllocError
     )
 }
 
-// Appends how many of them are written by `ausearch -i` to a text.
+// Appends how many of them `ausearch -i` wrote to a text.
 fn push_interpreted_note(number: u64, out: &mut Vec<u8>) -> Result<(), AllocError>
     ensures { OnOk result (out.new.items ≡ out.old.items ++ interpreted_note number) }
 {
@@ -85,7 +85,7 @@ fn push_learning_note(number: u64, out: &mut Vec<u8>) -> Result<(), AllocError>
     )
 }
 
-// Appends what is noted of lines that stand apart to a text.
+// Appends the notes on lines that make no question to a text.
 fn push_apart_note(logs: &LogRequests<'_>, out: &mut Vec<u8>) -> Result<(), AllocError>
     ensures { OnOk result (out.new.items ≡ out.old.items ++ apart_note (seen_logs logs.now)) }
 {
@@ -95,7 +95,7 @@ fn push_apart_note(logs: &LogRequests<'_>, out: &mut Vec<u8>) -> Result<(), Allo
     push_learning_note(logs.learning.count, out)
 }
 
-// Appends how many questions are asked by nobody who is loaded to a text.
+// Appends how many questions have an asker that isn't loaded to a text.
 fn push_nobody_note(number: u64, out: &mut Vec<u8>) -> Result<(), AllocError>
     ensures { OnOk result (out.new.items ≡ out.old.items ++ nobody_note number) }
 {
@@ -107,9 +107,9 @@ fn push_nobody_note(number: u64, out: &mut Vec<u8>) -> Result<(), AllocError>
     )
 }
 
-/// Appends what is noted of logs to a text: a line with how many of their lines can't be read, one with how many of these `ausearch -i` wrote, one each with
-/// how many requests are for files of which the kernel knew no whole path, and of learning profiles, and one with how many questions are asked by nobody
-/// who is loaded, each where there is one.
+/// Appends the notes on logs to a text: a line with how many of their lines can't be read, one with how many of these `ausearch -i` wrote, one each
+/// with how many requests are for files of which the kernel knew no whole path, and of learning profiles, and one with how many questions have an
+/// asker that isn't loaded, each where the number isn't 0.
 ///
 /// # Errors
 ///

@@ -1,4 +1,4 @@
-//! Lines behind a beginning of their own.
+//! Lines with a prefix.
 
 ghost use Rattle.std.specs.Prelude.{◌≡◌, ◌++◌, OnOk, false, flat_map};
 ghost use Rattle.std.specs.List.{list_any};
@@ -9,7 +9,7 @@ use aa_set_commands::first_line;
 use aatry_report::Form;
 use std::alloc::AllocError;
 
-// Appends a line to a text, behind a beginning.
+// Appends a line to a text, after a prefix.
 fn push_line(prefix: &[u8], line: &[u8], out: &mut Vec<u8>) -> Result<(), AllocError>
     ensures { OnOk result (out.new.items ≡ out.old.items ++ prefixed prefix.now line.now) }
 {
@@ -19,7 +19,7 @@ fn push_line(prefix: &[u8], line: &[u8], out: &mut Vec<u8>) -> Result<(), AllocE
     Ok(())
 }
 
-// Appends what no line feed ends to a text: the last line, or nothing.
+// Appends what follows the last line feed to a text: the last line, or nothing.
 fn push_last(prefix: &[u8], rest: &[u8], out: &mut Vec<u8>) -> Result<(), AllocError>
     requires { list_any is_line_feed rest.now ≡ false }
     ensures { OnOk result (out.new.items ≡ out.old.items ++ flat_map (prefixed prefix.now) (lines rest.now)) }
@@ -30,7 +30,7 @@ fn push_last(prefix: &[u8], rest: &[u8], out: &mut Vec<u8>) -> Result<(), AllocE
     push_line(prefix, rest, out)
 }
 
-// Appends lines to a text, each behind a beginning.
+// Appends lines to a text, each after a prefix.
 fn push_lines(prefix: &[u8], text: &[u8], out: &mut Vec<u8>) -> Result<(), AllocError>
     ensures { OnOk result (out.new.items ≡ out.old.items ++ flat_map (prefixed prefix.now) (lines text.now)) }
 {
@@ -42,7 +42,7 @@ fn push_lines(prefix: &[u8], text: &[u8], out: &mut Vec<u8>) -> Result<(), Alloc
     push_last(prefix, rest, out)
 }
 
-/// Appends what was told to a text: lines each behind a beginning, or records as they are.
+/// Appends lines to a text, each after a prefix, or records as they are.
 ///
 /// # Errors
 ///

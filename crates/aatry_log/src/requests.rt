@@ -1,4 +1,4 @@
-//! What is told of requests.
+//! The report on requests.
 
 ghost use Rattle.std.specs.Prelude.{◌≡◌, ◌≤◌, ◌++◌, IfOk, OnOk};
 ghost use Rattle.aatry_folder.specs.Reports.{failed_by};
@@ -19,7 +19,7 @@ use aatry_uncertain::LeftOutHeads;
 use aatry_why::push_asked;
 use std::alloc::AllocError;
 
-// Appends a request to a text, with what the policy of a loaded folder answers to it, and says how many ask it who aren't there: one, or none.
+// Appends a request to a text, with the answer of the policy of a loaded folder, and returns 1 where its asker doesn't exist, else 0.
 fn push_request(
     teller: Teller,
     loaded: &mut LoadedFolder<'_>,
@@ -52,8 +52,8 @@ fn push_request(
     Ok(failed_by(found))
 }
 
-/// Appends requests to a text, those first that came most often, each with what the policy of a loaded folder answers to it now, the rules behind the
-/// answer, and the profiles that are left out on which it could hang, as `why` tells them; and says how many of them nobody asks who is loaded.
+/// Appends requests to a text, the most frequent first, each with the present answer of the policy of a loaded folder, the rules that decide it, and
+/// the profiles that are left out on which it could depend, as `why` prints them; and returns how many of them have an asker that isn't loaded.
 ///
 /// # Errors
 ///

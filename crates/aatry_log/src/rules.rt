@@ -1,4 +1,4 @@
-//! The rules with which the requests of logs are allowed, asked of a folder of policy.
+//! The rules that allow the requests of logs, asked of a folder of policy.
 
 ghost use Rattle.std.specs.Prelude.{◌≡◌, ◌++◌, IfOk, OnOk};
 ghost use Rattle.aatry_arguments.specs.Given.{meant_telling};
@@ -23,14 +23,14 @@ use aatry_report::{Form, Teller};
 use aatry_requests::{Tallies, most_asked_first};
 use std::alloc::AllocError;
 
-// Appends what was told to a text, on lines as comments.
+// Appends lines as comments to a text, or records as they are.
 fn push_aside(form: Form, text: &[u8], out: &mut Vec<u8>) -> Result<(), AllocError>
     ensures { OnOk result (out.new.items ≡ out.old.items ++ aside form text.now) }
 {
     push_prefixed(form, b"# ", text, out)
 }
 
-// Appends what stands behind the rules to a text.
+// Appends what follows the rules to a text.
 fn push_behind(
     teller: Teller,
     logs: &LogRequests<'_>,
@@ -46,8 +46,8 @@ fn push_behind(
     push_aside(teller.form, &behind, out)
 }
 
-// Has the policy of a loaded folder remember what some requests pass of the rules of who asks, so that these are made ready once for all of them. It
-// changes nothing that is seen.
+// Has the policy of a loaded folder remember which states requests pass in the rules of their askers, so that these are made ready once for all of
+// them. Its answers don't change.
 fn remember_all(
     teller: Teller,
     loaded: &mut LoadedFolder<'_>,
@@ -64,10 +64,10 @@ fn remember_all(
     Ok(())
 }
 
-/// The rules with which the requests of logs are allowed that lack something of a folder of policy that was read, told in a form
-/// (`aatry_log_rules::push_rules`). Before them stand the files that are left out, where they are told, and behind them the first lines that stand apart
-/// from the questions, as `log` tells them, and what sums up; on lines as comments, so that what isn't one is a rule. It notes what `log` notes, and one
-/// failed where `log` has it so. Wider rules are offered beside them where these are asked for.
+/// The rules that would allow the requests of logs, where these lack something of a folder of policy that was read, in a form
+/// (`aatry_log_rules::push_rules`). They follow the files that are left out, where these are reported, and are followed by the first lines that make
+/// no question, as `log` prints them, and the summary; on lines all of that is comments, so that what isn't one is a rule. It notes what `log`
+/// notes, and one failed where it does for `log`. Wider rules are offered beside them where these are asked for.
 ///
 /// # Errors
 ///

@@ -1,4 +1,4 @@
-//! What sums up.
+//! The summary.
 
 ghost use Rattle.std.specs.Prelude.{◌≡◌, ◌++◌, IfOk, OnOk};
 ghost use Rattle.aatry_log.specs.Summary.{of_nobody, passed_text, summary_line, with_passed};
@@ -14,7 +14,7 @@ use aatry_report::{Form, Record, Teller};
 use aatry_requests::{Share, push_number};
 use std::alloc::{AllocError, Global};
 
-// The questions of those who aren't in the folder.
+// The share of questions whose asker isn't in the folder.
 fn of_nobody<'s>(number: usize) -> Share<'s>
     ensures { seen_share result ≡ of_nobody number }
 {
@@ -25,7 +25,7 @@ fn of_nobody<'s>(number: usize) -> Share<'s>
     }
 }
 
-// Appends how many lines are passed over, which ends the line, to a text.
+// Appends how many lines are passed over to a text, which ends the line.
 fn push_passed(logs: &LogRequests<'_>, out: &mut Vec<u8>) -> Result<(), AllocError>
     ensures { OnOk result (out.new.items ≡ out.old.items ++ passed_text (seen_logs logs.now)) }
 {
@@ -35,7 +35,7 @@ fn push_passed(logs: &LogRequests<'_>, out: &mut Vec<u8>) -> Result<(), AllocErr
     Ok(())
 }
 
-// Appends the line that sums up to a text.
+// Appends the summary to a text as a line.
 fn push_line(logs: &LogRequests<'_>, nobody: usize, out: &mut Vec<u8>) -> Result<(), AllocError>
     ensures { OnOk result (out.new.items ≡ out.old.items ++ summary_line Lines (seen_logs logs.now) nobody) }
 {
@@ -43,7 +43,7 @@ fn push_line(logs: &LogRequests<'_>, nobody: usize, out: &mut Vec<u8>) -> Result
     push_passed(logs, out)
 }
 
-// The record that sums up.
+// The summary as a record.
 fn summary_record(
     alloc: Global,
     logs: &LogRequests<'_>,
@@ -57,8 +57,8 @@ fn summary_record(
     Ok(made)
 }
 
-/// Appends what sums up logs to a text (`aatry_requests::Requests::push_summary`), by how many questions are of those who aren't in the folder, which is
-/// `nobody` in a record, and how many lines are passed over, which is `passed_over`.
+/// Appends the summary of logs to a text (`aatry_requests::Requests::push_summary`), by how many questions have an asker that isn't in the folder,
+/// which is `nobody` in a record, and how many lines are passed over, which is `passed_over`.
 ///
 /// # Errors
 ///

@@ -17,20 +17,20 @@ use aatry_report::Teller;
 use aatry_uncertain::heads_left_out;
 use std::alloc::AllocError;
 
-/// Whether logs pass: where they are taken strictly, each of their lines can be read, and none asks for somebody who isn't there.
+/// Whether logs pass: where they are taken strictly, each of their lines can be read, and the asker of each exists.
 pub fn passes(strict: bool, logs: &LogRequests<'_>, nobody: usize) -> bool
     ensures { result ≡ passes strict (seen_logs logs.now) nobody }
 {
     !strict || (logs.requests.unreadable == 0 && nobody == 0)
 }
 
-/// What the requests of logs come to, asked of a folder of policy that was read, told in a form. First come the files that are left out, where they
-/// are told, and it is noted how many they are (`aatry_policy::load_folder`). Then comes each request once, those first that came most often: a line
-/// with how often it came, when and what it asks, and below it what the policy answers now, with the rules behind the answer and the one that is
-/// missing, and the profiles of files that are left out on which it could hang, as `why` tells them. Then come the first lines that stand apart from
-/// the questions: that can't be read, of which the kernel knew no whole path, or of learning profiles. At the end stands what sums up. It is noted how
-/// many such lines there are, and how many questions are of nobody who is there. Where the logs are taken strictly, one failed where a line can't be
-/// read or there is such a question.
+/// The report on the requests of logs, asked of a folder of policy that was read, in a form. First come the files that are left out, where these are
+/// reported, and it is noted how many they are (`aatry_policy::load_folder`). Then comes each request once, the most frequent first: a line with how
+/// often it occurred, when, and its question, and below it the present answer of the policy, with the rules that decide it and the missing one, and
+/// the profiles of files that are left out on which it could depend, as `why` prints them. Then come the first lines that make no question: that
+/// can't be read, of which the kernel knew no whole path, or of learning profiles. The summary comes last. It is noted how many such lines there
+/// are, and how many questions have an asker that doesn't exist. Where the logs are taken strictly, one failed where a line can't be read or there
+/// is such a question.
 ///
 /// # Errors
 ///

@@ -6,7 +6,7 @@ use Rattle.aa_explain_written.specs.Written.{access_text, owner_text}
 use Rattle.aa_profile_data.specs.declared.profile.FileRule.{FileRule}
 use Rattle.aatry_log_globs.specs.Widening.{wider}
 
--- a rule on files with a pattern in the place of its own, as a profile's file writes it
+-- a rule on files with a pattern in place of its own, as a profile's file writes it
 abbrev pub rule_with : List ℕ → FileRule → List ℕ
 rule_with pattern rule = owner_text rule.owner ++ codes "file " ++ quote ∷ pattern ++ quote ∷ space ∷ access_text rule ++ comma ∷ []
 

@@ -1,4 +1,4 @@
--- Hashes and numbers in paths, which are others in each run of a program.
+-- Hashes and numbers in paths, which differ in each run of a program.
 use Rattle.std.specs.Prelude.{ℕ, ◌+◌, Bool, true, not, ◌==◌, ◌&&◌, ◌||◌, if◌then◌else◌, nat_le, List, [], ◌∷◌, codes, drop, length, take, Option, None, Some}
 use Rattle.std.specs.List.{list_all, list_any, prefix_len}
 use Rattle.aa_bytes.specs.Bytes.{dash, is_digit, is_letter, is_letter_or_digit}
@@ -37,7 +37,7 @@ is_dash_place place = place == 8 || place == 13 || place == 18 || place == 23
 abbrev pub is_of_uuid : ℕ → ℕ → Bool
 is_of_uuid place b = if is_dash_place place then b == dash else is_hexadecimal b
 
--- each byte of a text is one of a UUID, from a place of that on
+-- each byte of a text can be at its index of a UUID, from an index on
 abbrev pub are_of_uuid : ℕ → List ℕ → Bool
 are_of_uuid place [] = true
 are_of_uuid place (b ∷ bs) = is_of_uuid place b && are_of_uuid (place + 1) bs
@@ -45,15 +45,15 @@ are_of_uuid place (b ∷ bs) = is_of_uuid place b && are_of_uuid (place + 1) bs
 abbrev pub is_uuid : List ℕ → Bool
 is_uuid text = length text == uuid_size && are_of_uuid 0 text
 
--- a text begins with a UUID, behind which comes no letter or digit
+-- a text begins with a UUID, which no letter or digit follows
 abbrev pub begins_with_uuid : List ℕ → Bool
 begins_with_uuid text = is_uuid (take uuid_size text) && not (begins is_letter_or_digit (drop uuid_size text))
 
--- how many bytes the hash or the UUID has that a text begins with: none, where it begins with neither
+-- how many bytes the hash or the UUID has with which a text begins; 0, where it begins with neither
 abbrev pub hash_size : List ℕ → ℕ
 hash_size text = if begins_with_uuid text then uuid_size else if is_hash (take (word_size text) text) then word_size text else 0
 
--- the same behind a byte: no letter or digit stands before a hash
+-- how many bytes the hash or the UUID has with which a text after a byte begins; 0 after a letter or digit
 abbrev pub hash_size_behind : ℕ → List ℕ → ℕ
 hash_size_behind before text = if is_letter_or_digit before then 0 else hash_size text
 
@@ -77,6 +77,6 @@ number_of size = record { pattern = codes "[0-9]*"; size = size }
 abbrev pub number_run : List ℕ → Option Run
 number_run text = if number_size text == 0 then None else Some (number_of (number_size text))
 
--- the hash or number that a text behind a byte begins with, if it begins with one
+-- the hash or number with which a text after a byte begins, if it begins with one
 abbrev pub run_behind : ℕ → List ℕ → Option Run
 run_behind before text = if hash_size_behind before text == 0 then number_run text else Some (hash_of (hash_size_behind before text) text)

@@ -4,11 +4,11 @@ use Rattle.std.specs.List.{prefix_len}
 use Rattle.aa_bytes.specs.Bytes.{is_digit, slash}
 use Rattle.aa_bytes.specs.Texts.{begins_with, begins_with_byte}
 
--- how many bytes of a kind a text begins with, if a slash comes behind them; else none
+-- how many bytes of a kind a text begins with, if a slash follows them; else 0
 abbrev pub size_before_slash : (ℕ → Bool) → List ℕ → ℕ
 size_before_slash kind text = if begins_with_byte slash (drop (prefix_len kind text) text) then prefix_len kind text else 0
 
--- how many bytes a name, or a number, has that stands behind these and before a slash; none, where nothing of the kind does
+-- how many bytes a name, or a number, has between a front and a slash; 0, where nothing of the kind is there
 abbrev pub size_behind : List ℕ → (ℕ → Bool) → List ℕ → ℕ
 size_behind front kind text = if begins_with front text then size_before_slash kind (drop 6 text) else 0
 
@@ -26,11 +26,11 @@ task_size text = size_behind (codes "/task/") is_digit text
 abbrev pub name_size : List ℕ → ℕ
 name_size path = size_behind (codes "/home/") is_of_name path
 
--- how many bytes the home folder has that a path lies in: `/home/NAME`, or `/root`; none, where it lies in none
+-- how many bytes the home folder has that a path lies in: `/home/NAME`, or `/root`; 0, where it lies in none
 abbrev pub home_size : List ℕ → ℕ
 home_size path = if begins_with (codes "/root/") path then 5 else if name_size path == 0 then 0 else 6 + name_size path
 
--- a part of a path, and what stands in its place in a pattern: a variable, or the part itself
+-- a part of a path, and what is in its place in a pattern: a variable, or the part itself
 pub record Part : Type 0 where
   pub text : List ℕ
   pub bytes : List ℕ
@@ -41,13 +41,13 @@ part_in text bytes = record { text = text; bytes = bytes }
 abbrev pub same_part : List ℕ → Part
 same_part bytes = part_in bytes bytes
 
--- the parts of what a text behind the folder of a process begins with: the folder of a task
+-- the parts of what a text after the folder of a process begins with: the folder of a task
 abbrev pub task_parts : List ℕ → List Part
 task_parts text =
     if task_size text == 0 then [] else
     same_part (codes "/task/") ∷ part_in (codes "@{tid}") (take (task_size text) (drop 6 text)) ∷ []
 
--- those of the folder of a process that a path lies in
+-- the parts of the folder of a process that a path lies in
 abbrev pub process_parts : List ℕ → List Part
 process_parts path =
     if process_size path == 0 then [] else

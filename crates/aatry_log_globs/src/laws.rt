@@ -9,9 +9,9 @@ ghost use Rattle.aatry_log_globs.specs.Widening.{wider};
 
 use aa_glob_pattern::matching_is_by_splits;
 
-/// What is offered is wider: with what the path has in the place of each variable, the wider pattern for a path reads as one that the path matches, if it
-/// has none of the faults that are told first. Where there is no variable in it, that is the pattern itself. What variables stand for is what the path
-/// begins with.
+/// What is offered is wider: with what the path has in place of each variable, the wider pattern for a path reads as one that matches the path, if
+/// it has none of the faults that are reported first. Where there is no variable in it, that is the pattern itself. What variables stand for is what
+/// the path begins with.
 pub fn what_is_offered_is_wider()
     ensures paths_match { (path : List ℕ) → HasNoFirstFault (expanded path) → matches (items_of (expanded path)) path ≡ true }
     ensures without_variables { (path pattern : List ℕ)

@@ -1,4 +1,4 @@
-//! Wider patterns for the paths of requests: as a variable or a class has it what another run of a program would have otherwise.
+//! Wider patterns for the paths of requests: with a variable or a class in place of what another run of a program would have otherwise.
 #![tactic(auto)]
 
 mod laws;

@@ -21,7 +21,7 @@ fn push_word(out: &mut Vec<u8>, exec: &Option<Transition>) -> Result<(), AllocEr
     }
 }
 
-// Appends what stands before the pattern of a rule to a text.
+// Appends what comes before the pattern of a rule to a text.
 fn push_opening(out: &mut Vec<u8>, owner: bool) -> Result<(), AllocError>
     ensures { OnOk result (out.new.items ≡ out.old.items ++ owner_text owner ++ codes "file ") }
 {
@@ -31,7 +31,7 @@ fn push_opening(out: &mut Vec<u8>, owner: bool) -> Result<(), AllocError>
     out.extend_from_slice(b"file ")
 }
 
-// Appends what stands behind the pattern of a rule to a text.
+// Appends what follows the pattern of a rule to a text.
 fn push_access(out: &mut Vec<u8>, rule: &FileRule) -> Result<(), AllocError>
     ensures { OnOk result (out.new.items ≡ out.old.items ++ space ∷ access_text rule.now ++ comma ∷ []) }
 {
@@ -42,7 +42,7 @@ fn push_access(out: &mut Vec<u8>, rule: &FileRule) -> Result<(), AllocError>
     Ok(())
 }
 
-// A rule on files with a pattern in the place of its own.
+// A rule on files with a pattern in place of its own.
 fn rule_with(alloc: Global, pattern: &[u8], rule: &FileRule) -> Result<Vec<u8>, AllocError>
     ensures { IfOk result (λ text. text.items ≡ rule_with pattern.now rule.now) }
 {
@@ -53,7 +53,8 @@ fn rule_with(alloc: Global, pattern: &[u8], rule: &FileRule) -> Result<Vec<u8>, 
     Ok(text)
 }
 
-/// The rule with the wider pattern for a path (`wider`) in the place of its own, as a profile's file writes it, if something of the path is widened.
+/// The rule with the wider pattern for a path (`wider`) in place of its own, as a profile's file writes it; `None` where nothing of the path is
+/// widened.
 ///
 /// # Errors
 ///

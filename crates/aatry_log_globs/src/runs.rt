@@ -1,4 +1,4 @@
-//! Hashes and numbers in paths, which are others in each run of a program.
+//! Hashes and numbers in paths, which differ in each run of a program.
 
 ghost use Rattle.std.specs.Prelude.{◌≡◌, ◌≤◌, length, take};
 ghost use Rattle.std.specs.List.{list_all, list_any};
@@ -20,7 +20,7 @@ const UUID_SIZE: usize = 36;
 /// A hash or a number that a text begins with.
 #[derive(Clone, Copy)]
 pub struct Run {
-    /// The pattern of those like it.
+    /// The pattern of hashes or numbers like it.
     pub pattern: &'static [u8],
     /// How many bytes it has.
     pub size: usize,
@@ -105,14 +105,14 @@ fn is_hash(word: &[u8]) -> bool
     word.len() >= LEAST_HASH && are_hexadecimal(word) && has_digit(word) && has_letter(word)
 }
 
-// Whether a UUID has a dash at a place.
+// Whether a UUID has a dash at an index.
 fn is_dash_place(place: usize) -> bool
     ensures { result ≡ is_dash_place place }
 {
     matches!(place, 8 | 13 | 18 | 23)
 }
 
-// Whether a byte is one of a UUID at a place.
+// Whether a byte can be at an index of a UUID.
 fn is_of_uuid(place: usize, byte: u8) -> bool
     ensures { result ≡ is_of_uuid place byte }
 {
@@ -152,7 +152,7 @@ fn begins_with_word(text: &[u8]) -> bool
     }
 }
 
-// Whether a text begins with a UUID, behind which comes no letter or digit.
+// Whether a text begins with a UUID, which no letter or digit follows.
 fn begins_with_uuid(text: &[u8]) -> bool
     ensures { result ≡ begins_with_uuid text.now }
 {
@@ -170,7 +170,7 @@ fn first_bytes(size: usize, text: &[u8]) -> &[u8]
     }
 }
 
-// How many bytes the hash or the UUID has that a text begins with: none, where it begins with neither.
+// How many bytes the hash or the UUID has with which a text begins; 0, where it begins with neither.
 fn hash_size(text: &[u8]) -> usize
     ensures { result ≡ hash_size text.now }
 {
@@ -181,7 +181,7 @@ fn hash_size(text: &[u8]) -> usize
     if is_hash(&text[..size]) { size } else { 0 }
 }
 
-// The same behind a byte: no letter or digit stands before a hash.
+// How many bytes the hash or the UUID has with which a text after a byte begins; 0 after a letter or digit, which no hash follows.
 fn hash_size_behind(before: u8, text: &[u8]) -> usize
     ensures { result ≡ hash_size_behind before text.now }
 {
@@ -203,7 +203,7 @@ fn hash_pattern(hash: &[u8]) -> &'static [u8]
     }
 }
 
-// The number that a text begins with, if it does.
+// The number with which a text begins, if it does.
 fn number_run(text: &[u8]) -> Option<Run>
     ensures { option_map seen_run result ≡ number_run text.now }
 {
@@ -217,8 +217,8 @@ fn number_run(text: &[u8]) -> Option<Run>
     })
 }
 
-/// The hash or number that a text behind a byte begins with, if it begins with one: of a hash no letter or digit stands at either end, and it is a UUID,
-/// or has at least eight hexadecimal digits, among them both digits and letters.
+/// The hash or number with which a text after a byte begins, if it begins with one: a hash has no letter or digit next to it at either end, and is a
+/// UUID, or has at least eight hexadecimal digits, among them both digits and letters.
 pub fn run_behind(before: u8, text: &[u8]) -> Option<Run>
     ensures { option_map seen_run result ≡ run_behind before text.now }
 {

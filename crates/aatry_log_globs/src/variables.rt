@@ -7,10 +7,10 @@ ghost use Rattle.aatry_log_globs.specs.Variables.{bytes_of, front_parts, home_si
 use aa_bytes::{begins_with, begins_with_byte, behind, length_while};
 use std::alloc::AllocError;
 
-// How many bytes the front has behind which the name, or the number, of a folder stands: `/home/`, `/proc/` and `/task/`.
+// How many bytes the front has after which the name, or the number, of a folder follows: `/home/`, `/proc/` and `/task/`.
 const FRONT_SIZE: usize = 6;
 
-// How many bytes the name has that a text has behind `/home/` and before a slash; none, where it has none there.
+// How many bytes the name has that a text has between `/home/` and a slash; 0, where it has none there.
 fn name_size(path: &[u8]) -> usize
     ensures value { result ≡ name_size path.now }
     ensures within { result ≤ length path.now - 6 }
@@ -27,7 +27,7 @@ fn name_size(path: &[u8]) -> usize
     }
 }
 
-// How many digits a text has behind a front and before a slash; none, where it has none there.
+// How many digits a text has between a front and a slash; 0, where it has none there.
 fn number_size(front: &[u8], text: &[u8]) -> usize
     ensures value { result ≡ size_behind front.now is_digit text.now }
     ensures within { result ≤ length text.now - 6 }
@@ -44,7 +44,7 @@ fn number_size(front: &[u8], text: &[u8]) -> usize
     }
 }
 
-// How many bytes the home folder has that a path lies in; none, where it lies in none.
+// How many bytes the home folder has that a path lies in; 0, where it lies in none.
 fn home_size(path: &[u8]) -> usize
     ensures { result ≡ home_size path.now }
 {
@@ -55,7 +55,8 @@ fn home_size(path: &[u8]) -> usize
     if size == 0 { 0 } else { FRONT_SIZE + size }
 }
 
-// Appends what a pattern has for the folder of a task that a text begins with to another, and says how many bytes that has; none, where it begins with none.
+// Appends the pattern for the folder of a task with which a text begins to `out`, and returns how many bytes of the text that covers; 0, where it
+// begins with none.
 fn push_task(out: &mut Vec<u8>, text: &[u8]) -> Result<usize, AllocError>
     ensures pattern { OnOk result (out.new.items ≡ out.old.items ++ texts_of (task_parts text.now)) }
     ensures size { IfOk result (λ size. size ≡ length (bytes_of (task_parts text.now))) }
@@ -68,7 +69,8 @@ fn push_task(out: &mut Vec<u8>, text: &[u8]) -> Result<usize, AllocError>
     Ok(FRONT_SIZE + size)
 }
 
-// The same for the folder of a process that a path lies in, with that of its task.
+// Appends the pattern for the folder of a process that a path lies in to `out`, with that of its task, and returns how many bytes of the path that
+// covers; 0, where it lies in none.
 fn push_process(out: &mut Vec<u8>, path: &[u8]) -> Result<usize, AllocError>
     ensures pattern { OnOk result (out.new.items ≡ out.old.items ++ texts_of (process_parts path.now)) }
     ensures size { IfOk result (λ size. size ≡ length (bytes_of (process_parts path.now))) }
@@ -82,8 +84,8 @@ fn push_process(out: &mut Vec<u8>, path: &[u8]) -> Result<usize, AllocError>
     Ok(FRONT_SIZE + size + task)
 }
 
-/// Appends what a pattern has for the beginning of a path to a text, and says how many bytes of the path that stands for: `@{HOME}` for the home folder
-/// that the path lies in, `@{PROC}/@{pid}` for the folder of a process below `/proc`, and `/task/@{tid}` for that of a task behind this; nothing for any
+/// Appends the pattern for the beginning of a path to a text, and returns how many bytes of the path that stands for: `@{HOME}` for the home folder
+/// that the path lies in, `@{PROC}/@{pid}` for the folder of a process below `/proc`, followed by `/task/@{tid}` for that of a task; nothing for any
 /// other.
 ///
 /// # Errors

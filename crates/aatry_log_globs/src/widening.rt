@@ -1,4 +1,4 @@
-//! Wider patterns for paths, as they stand between the quotes of a profile's file.
+//! Wider patterns for paths, as they are written in the quotes of a profile's file.
 
 ghost use Rattle.std.specs.Prelude.{◌≡◌, ◌++◌, ◌||◌, IfOk, OnOk};
 ghost use Rattle.std.specs.Option.{option_map};
@@ -14,7 +14,7 @@ use aa_glob_syntax::LONGEST_PATTERN;
 use aatry_report::push_shown;
 use std::alloc::{AllocError, Global};
 
-// Whether a byte of a path, behind another, stands for itself between quotes only behind a backslash.
+// Whether a byte of a path, after another, needs a backslash in quotes to stand for itself.
 fn needs_backslash(before: u8, byte: u8) -> bool
     ensures { result ≡ needs_backslash byte || needs_escape before byte }
 {
@@ -22,7 +22,7 @@ fn needs_backslash(before: u8, byte: u8) -> bool
         || (byte == b'/' && before == b'/')
 }
 
-// Appends a byte of a path, behind another, to a pattern between quotes, in which it stands for itself.
+// Appends a byte of a path, after another, to a pattern in quotes, in which it stands for itself.
 fn push_spelled_byte(out: &mut Vec<u8>, before: u8, byte: u8) -> Result<(), AllocError>
     ensures { OnOk result (out.new.items ≡ out.old.items ++ spelled_byte before byte) }
 {
@@ -48,8 +48,8 @@ fn spelled(alloc: Global, path: &[u8]) -> Result<Vec<u8>, AllocError>
     Ok(text)
 }
 
-// Appends what a pattern has in the place of a byte to it, by the hash or number that begins with the byte, if one does, and says how many bytes behind
-// it that covers.
+// Appends the pattern for a byte to `out`, by the hash or number that begins with the byte, if one does, and returns how many bytes after it that
+// covers.
 fn push_first(
     out: &mut Vec<u8>,
     run: Option<Run>,
@@ -71,7 +71,8 @@ fn push_first(
     }
 }
 
-// The same for the first byte of a text behind a byte, of whose beginning so many bytes are covered by what stands ahead.
+// Appends the pattern for the first byte of a text after a byte to `out`, where so many of its first bytes are covered already, and returns how many
+// of the bytes after it are covered.
 fn push_step(
     out: &mut Vec<u8>,
     covered: usize,
@@ -90,7 +91,7 @@ fn push_step(
     push_first(out, run_behind(before, text), before, *byte)
 }
 
-// Appends bytes of a path to a pattern, with a pattern in the place of each hash and number.
+// Appends bytes of a path to a pattern, with a pattern in place of each hash and number.
 fn push_widened(out: &mut Vec<u8>, bytes: &[u8]) -> Result<(), AllocError>
     ensures { OnOk result (out.new.items ≡ out.old.items ++ widened_behind 0 0 bytes.now) }
 {
@@ -115,7 +116,7 @@ fn widened(alloc: Global, path: &[u8]) -> Result<Vec<u8>, AllocError>
     Ok(text)
 }
 
-// Whether a pattern can be told: a terminal obeys none of its bytes, and it isn't too long.
+// Whether a pattern can be printed: a terminal obeys none of its bytes, and it isn't too long.
 fn can_be_told(alloc: Global, text: &[u8]) -> Result<bool, AllocError>
     ensures { IfOk result (λ told. told ≡ can_be_told text.now) }
 {
@@ -124,7 +125,7 @@ fn can_be_told(alloc: Global, text: &[u8]) -> Result<bool, AllocError>
     Ok(told.as_slice() == text && text.len() <= LONGEST_PATTERN)
 }
 
-// Whether a pattern is offered for a path: it can be told, and isn't the path's own.
+// Whether a pattern is offered for a path: it can be printed, and isn't the path's own.
 fn is_offered(alloc: Global, path: &[u8], text: &[u8]) -> Result<bool, AllocError>
     ensures { IfOk result (λ offered. offered ≡ is_offered path.now text.now) }
 {
@@ -133,10 +134,10 @@ fn is_offered(alloc: Global, path: &[u8], text: &[u8]) -> Result<bool, AllocErro
     Ok(told && own.as_slice() != text)
 }
 
-/// The wider pattern for a path, as it stands between the quotes of a profile's file, if something of the path is widened. `@{HOME}` stands in it for
-/// `/home/NAME` and `/root` before a slash, `@{PROC}/@{pid}` for `/proc/NUMBER` before one, and `/task/@{tid}` for `/task/NUMBER` behind that; `[0-9a-f]*`,
-/// or `[0-9a-fA-F]*` where it has capitals, for a hash or a UUID, and `[0-9]*` for any other number. There is none where it would be longer than 4,096
-/// bytes, or a terminal obeys one of its bytes.
+/// The wider pattern for a path, as it is written in the quotes of a profile's file; `None` where nothing of the path is widened. It has `@{HOME}`
+/// in place of `/home/NAME` and `/root` before a slash, `@{PROC}/@{pid}` in place of `/proc/NUMBER` before one, and `/task/@{tid}` in place of
+/// `/task/NUMBER` after that; `[0-9a-f]*`, or `[0-9a-fA-F]*` where it has capitals, in place of a hash or a UUID, and `[0-9]*` in place of any other
+/// number. `None` too where it would be longer than 4,096 bytes, or a terminal obeys one of its bytes.
 ///
 /// # Errors
 ///

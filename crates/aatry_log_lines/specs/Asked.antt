@@ -1,4 +1,4 @@
--- What lines ask, as the code holds it.
+-- The questions of lines, as the code holds them.
 use Rattle.std.proofs.Props.{props}
 use Rattle.std.specs.Prelude.{◌<◌}
 use Rattle.aa_profile_data.specs.Access.{asked_letters}
@@ -15,14 +15,14 @@ question_of (Exec who owned path) = OfExec (seen_text who) owned (seen_text path
 question_of (Cap who number) = OfAccess (seen_text who) (ForCapability number)
 question_of (Net who domain kind) = OfAccess (seen_text who) (ForSockets domain kind)
 
--- it needs letters alone that may be asked for, and its numbers stand in the tables
+-- a question needs only letters that may be asked for, and its numbers are in the tables
 abbrev pub IsWellAsked : Asked → Type 0
 IsWellAsked (File who needs owned path) = needs.0 < asked_letters
 IsWellAsked (Exec who owned path) = Unit {0}
 IsWellAsked (Cap who number) = number < 41
 IsWellAsked (Net who domain kind) = (domain < 44) × (kind < 6)
 
--- that is a fact, which holds in one way at most
+-- that is a proposition: it holds in one way at most
 pub well_asked-prop : (asked : Asked) → IsProp (IsWellAsked asked)
 well_asked-prop (File who needs owned path) = hlevel props
 well_asked-prop (Exec who owned path) = hlevel props

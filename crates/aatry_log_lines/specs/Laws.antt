@@ -1,4 +1,4 @@
--- What the laws ask of requests, and what a line that logs one tells.
+-- Definitions for the laws on requests, and on the lines that log them.
 use Rattle.std.specs.Prelude.{◌≡◌, ◌<◌, ℕ, true, false, List}
 use Rattle.hex.specs.Hex.{IsBytes}
 use Rattle.aa_profile_data.specs.Access.{asked_letters}
@@ -11,7 +11,7 @@ CanBeLogged (ForFile needs owned path) = (0 < needs) × (needs < asked_letters) 
 CanBeLogged (ForCapability number) = number < 41
 CanBeLogged (ForSockets domain kind) = (domain < 44) × (kind < 6)
 
--- what the line that logs a request asks: the same of the same profile, but that no line tells who owns the file
+-- the question of the line that logs a request: the same of the same profile, except that no line has the file's owner
 abbrev pub as_logged : List ℕ → Request → Question
 as_logged asker (ForFile needs owned path) = OfAccess asker (ForFile needs false path)
 as_logged asker (ForCapability number) = OfAccess asker (ForCapability number)

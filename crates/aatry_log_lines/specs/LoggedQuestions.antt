@@ -29,7 +29,7 @@ path_question who mask owned path =
     if bytes_eq mask (codes "x") then result_ok (exec_question who (Some owned) path) else
     result_ok (file_question who (needs_of_mask mask) (Some owned) path)
 
--- the same, if its parts are there
+-- the question for a path by its mask, if its parts are there
 abbrev pub file_asked : Option (List ℕ) → Option (List ℕ) → Option Bool → Option (List ℕ) → Option Question
 file_asked (Some who) (Some mask) (Some owned) (Some path) = path_question who mask owned path
 file_asked _ _ _ _ = None

@@ -11,13 +11,13 @@ use Rattle.aa_bytes.specs.Texts.{begins_with_byte}
 use Rattle.aatry_log_lines.specs.declared.messages.Message.{Message as CodeMessage}
 use Rattle.aatry_log_lines.specs.declared.messages.Message.TheVariants as code
 
--- what a line has of a message: none, since it is no record of one; the message's bytes; or one that can't be read
+-- the message of a line: none, since it is no record with one; the message's bytes; or one that can't be read
 pub data Message : Type 0 where
   NoMessage : Message
   Whole : (bytes : List ℕ) → Message
   Broken : Message
 
--- that of the code
+-- the message of the code
 abbrev pub seen_message : CodeMessage → Message
 seen_message code.NoMessage = NoMessage
 seen_message (code.Whole bytes) = Whole bytes.items
@@ -30,7 +30,7 @@ as_byte number = if nat_lt number 256 then Some number else None
 abbrev pub byte_of : Data → Option ℕ
 byte_of value = option_and_then as_byte (option_and_then as_u64 (as_number value))
 
--- the bytes of a list, if each of its values is one
+-- the bytes of a list, if each of its values is a byte
 abbrev pub bytes_of : Items → Option (List ℕ)
 bytes_of no_items = Some []
 bytes_of (item value values) = elim (byte_of value) [ None ↦ None | Some byte ↦ option_map (λ bytes. byte ∷ bytes) (bytes_of values) ]
@@ -40,7 +40,7 @@ abbrev pub message_read : Option (List ℕ) → Message
 message_read None = Broken
 message_read (Some bytes) = Whole bytes
 
--- the message of a value, if that is no text
+-- the message of a value that is no text
 abbrev pub message_listed : Option Items → Message
 message_listed None = NoMessage
 message_listed (Some values) = message_read (bytes_of values)
@@ -53,7 +53,7 @@ message_by value = elim (as_str value) [ None ↦ message_listed (as_array value
 abbrev pub message_of : Data → Message
 message_of value = elim (get (codes "MESSAGE") value) [ None ↦ NoMessage | Some message ↦ message_by message ]
 
--- what a line has of a message
+-- the message of a line
 abbrev pub message_in : List ℕ → Message
 message_in line =
     if begins_with_byte opening_brace line && is_utf8 line then elim (read line) [ None ↦ NoMessage | Some value ↦ message_of value ] else NoMessage

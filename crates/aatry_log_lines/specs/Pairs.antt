@@ -1,11 +1,11 @@
 -- The pairs of a line of the kernel's log. A line has words, and some of them are pairs: a key, `=` and a value. In the values of names the kernel
--- writes visible characters alone, so a word ends at each byte up to the space, as at the byte 29 that auditd puts before what it adds.
+-- writes only visible characters, so a word ends at each byte up to the space, also at the byte 29 that auditd writes before what it adds.
 use Rattle.std.specs.Prelude.{ℕ, Bool, nat_le, if◌then◌else◌, List, [], ◌∷◌, Option, None, Some, drop, length}
 use Rattle.std.specs.List.{slice_split}
 use Rattle.aa_bytes.specs.Bytes.{space}
 use Rattle.aa_bytes.specs.Texts.{begins_with}
 
--- a byte that stands between words
+-- a byte between words
 abbrev pub is_gap : ℕ → Bool
 is_gap b = nat_le b space
 

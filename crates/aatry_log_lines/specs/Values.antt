@@ -1,4 +1,4 @@
--- What values say. The kernel writes a text between quotes, or in hexadecimal digits without quotes where it has a byte that is no visible ASCII
+-- The texts of values. The kernel writes a text in quotes, or in hexadecimal digits without quotes where it has a byte that is no visible ASCII
 -- character, or a quote.
 use Rattle.std.specs.Prelude.{ℕ, Bool, ◌==◌, if◌then◌else◌, List, [], ◌∷◌, Option, None, Some}
 use Rattle.std.specs.Option.{option_map}
@@ -12,12 +12,12 @@ use Rattle.aatry_log_lines.specs.declared.values.LoggedText.TheVariants.{Decoded
 abbrev pub is_quote : ℕ → Bool
 is_quote b = b == quote
 
--- what stands before the first quote, if that stands at the end
+-- what is before the first quote, if that is at the end
 abbrev pub before_last_quote : List ℕ → Option (List ℕ)
 before_last_quote [] = None
 before_last_quote (b ∷ bs) = if is_quote b then (if is_empty bs then Some [] else None) else option_map (λ text. b ∷ text) (before_last_quote bs)
 
--- the text of a value that is written between quotes
+-- the text of a value that is written in quotes
 abbrev pub quoted_text : List ℕ → Option (List ℕ)
 quoted_text [] = None
 quoted_text (b ∷ bs) = if is_quote b then before_last_quote bs else None

@@ -1,2 +1,2 @@
--- What is about the code: who asks, as the code holds it.
+-- Definitions about the code: askers, as the code holds them.
 pub mod Askers

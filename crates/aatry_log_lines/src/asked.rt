@@ -35,7 +35,7 @@ pub enum Asked<'a> {
 }
 
 impl<'a> Asked<'a> {
-    // The same, that borrows from no line.
+    // The same question, which borrows from no line.
     fn into_owned<'b>(self, alloc: Global) -> Result<Asked<'b>, AllocError>
         ensures value { IfOk result (λ owned. question_of owned ≡ question_of self.entry) }
         ensures well { IsWellAsked self.entry → IfOk result IsWellAsked }
@@ -71,7 +71,7 @@ impl<'a> Asked<'a> {
     }
 }
 
-/// A question that a line asks. It holds the texts of it that had to be decoded, and borrows the others from the line.
+/// The question of a line. It owns the texts that had to be decoded, and borrows the others from the line.
 #[derive(Drop)]
 pub struct LoggedQuestion<'a> {
     asked: Asked<'a>,
@@ -87,7 +87,7 @@ impl<'a> LoggedQuestion<'a> {
         LoggedQuestion { asked }
     }
 
-    /// A question whose texts stand somewhere else. It takes no memory.
+    /// The question with borrowed texts. It takes no memory.
     pub fn of(question: Question<'a>) -> LoggedQuestion<'a>
         requires { IsWellFormed question }
         ensures { question_of result.asked ≡ seen_question question.entry }
@@ -156,7 +156,7 @@ impl<'a> LoggedQuestion<'a> {
         }
     }
 
-    /// The same question, that borrows from no line.
+    /// The same question, which borrows from no line.
     ///
     /// # Errors
     ///

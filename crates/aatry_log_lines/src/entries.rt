@@ -1,4 +1,4 @@
-//! What lines of a log tell, and when.
+//! What lines of a log hold, and when they were logged.
 
 ghost use Rattle.std.specs.Prelude.{◌≡◌, IfOk};
 ghost use Rattle.aatry_log_lines.specs.Entries.{entry_by, entry_of, seen_entry, unreadable_entry};
@@ -10,19 +10,19 @@ use crate::selections::{Selection, is_passed_over};
 use crate::stamps::time_in;
 use std::alloc::{AllocError, Global};
 
-/// What a line of a log tells.
+/// What a line of a log holds.
 #[derive(Drop)]
 pub struct LogEntry<'a> {
-    /// What it tells of.
+    /// What it holds.
     pub told: LogLine<'a>,
-    /// When that came, in seconds since 1970, where the line has a stamp.
+    /// When that was logged, in seconds since 1970, where the line has a stamp.
     pub time: Option<u64>,
-    /// Whether the line is passed over, since it says that it isn't one of those that are asked for.
+    /// Whether the line is passed over, since it isn't one of the selected lines.
     pub is_passed_over: bool,
 }
 
 impl<'a> LogEntry<'a> {
-    /// That of a line that can't be read: nothing is known of what it asks, nor when it came, nor whether it is asked for. It takes no memory.
+    /// The entry of a line that can't be read: it isn't known what it asks, nor when it was logged, nor whether it is selected. It takes no memory.
     pub fn unreadable() -> LogEntry<'a>
         ensures { seen_entry result ≡ unreadable_entry }
     {
@@ -33,7 +33,7 @@ impl<'a> LogEntry<'a> {
         }
     }
 
-    /// The same, that borrows from no line.
+    /// The same entry, which borrows from no line.
     ///
     /// # Errors
     ///
@@ -54,7 +54,7 @@ impl<'a> LogEntry<'a> {
     }
 }
 
-// What a message tells.
+// The entry of a message.
 fn entry_of<'a>(
     alloc: Global,
     selection: Selection<'_>,
@@ -70,8 +70,8 @@ fn entry_of<'a>(
     })
 }
 
-/// What a line of a log tells, as `told_by` says, when that came, and whether the line is passed over by what is asked for. A record of the journal is
-/// read once.
+/// The entry of a line of a log: what it holds, as `told_by` returns it, when it was logged, and whether the line is passed over by the selection. A
+/// record of the journal is read once.
 ///
 /// # Errors
 ///

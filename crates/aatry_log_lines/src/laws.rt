@@ -15,15 +15,15 @@ ghost use Rattle.aatry_log_lines.specs.Lines.{Asks, told_by};
 ghost use Rattle.aatry_log_lines.specs.Selections.{Selection};
 ghost use Rattle.aatry_log_lines.specs.Values.{text_of};
 
-/// What is written of a text as the log lines of `aa_decide_rules` write it, between quotes or in hexadecimal, is read back as that text.
+/// Text that is written as by the log lines of `aa_decide_rules`, in quotes or in hexadecimal, is read back as that text.
 pub fn what_is_written_reads_back()
     ensures { (text : List ℕ) → IsBytes text → text_of (written_text text) ≡ Some text }
 {}
 
 /// A line that logs a request is read, among the lines of a log, as the question that was asked: of the same profile by its full name, for a file by
-/// all letters that were needed, whichever of them are told as denied or audited, and by its path, for a capability, or for a socket. A line tells of no
-/// owner, so a file is asked for as one of another. The line that logs the start of a program is read as the question after that program. What isn't
-/// logged, as where rules allow it and none audits it, or of what isn't confined, has no line.
+/// all letters that were needed, whichever of them are logged as denied or audited, and by its path, for a capability, or for a socket. A line has
+/// no owner, so a file counts as another user's. The line that logs the start of a program is read as the question on that program. What isn't
+/// logged, where rules allow it and none audits it, or where the task isn't confined, has no line.
 pub fn what_is_logged_reads_back()
     ensures access { (asker : List ℕ) (request : Request) (verdict : Verdict) (tag : Tag)
         → verdict.tag ≡ Some tag
@@ -41,7 +41,7 @@ pub fn what_is_logged_reads_back()
         → map told_by (lines (log_line asker request verdict)) ≡ [] }
 {}
 
-/// What a line of a log tells, whatever is asked for, is what `told_by` says of it.
+/// What a line of a log holds, whatever the selection, is what `told_by` returns.
 pub fn what_entries_tell()
     ensures { (selection : Selection) (line : List ℕ) → (entry_by selection line).told ≡ told_by line }
 {}

@@ -1,4 +1,4 @@
-//! What a line of a kernel's log tells of: the question that it asks, or that no question asks it.
+//! What a line of a kernel's log holds: the question that it asks, or that no question asks it.
 //!
 //! A line is one of a kernel's, as audit.log, syslog, `dmesg` and `journalctl` have it, or a record of the system's journal, as `journalctl -o json`
 //! writes one.

@@ -1,4 +1,4 @@
-//! What lines of a log tell of.
+//! What lines of a log hold.
 
 ghost use Rattle.std.specs.Prelude.{◌≡◌, codes, option_map, IfOk};
 ghost use Rattle.aa_profile_data.specs.Stacks.{parts_of};
@@ -20,7 +20,7 @@ use aa_bytes::begins_with;
 use aa_profile_data::first_member;
 use std::alloc::{AllocError, Global};
 
-/// What a line of a kernel's log tells of.
+/// What a line of a kernel's log holds.
 #[derive(Drop)]
 pub enum LogLine<'a> {
     /// A request, as this question asks it.
@@ -29,18 +29,19 @@ pub enum LogLine<'a> {
     OtherRequest,
     /// A request for a file of which the kernel knew no whole path, as its words `disconnected path` say.
     Disconnected,
-    /// A request of a learning profile, as of `NAME//null-PATH`: of a program at PATH that NAME started in complain mode, where no rule of NAME lets it.
+    /// A request of a learning profile, such as `NAME//null-PATH`: of a program at PATH that NAME started in complain mode, where no rule of NAME
+    /// allows it.
     Learning,
-    /// No request: it says nothing of AppArmor, or that policy was loaded, or the like.
+    /// No request: it has nothing of AppArmor, or logs that policy was loaded, or the like.
     NoRequest,
     /// Something of AppArmor that can't be read: a value is missing or in no known form, or is no word that is known there, or the path or the mask
     /// is none that a question can have.
     Unreadable,
-    /// A request that can't be read, since its values are written without quotes, as `ausearch -i` does.
+    /// A request that can't be read, since its values are written without quotes, as `ausearch -i` does it.
     Interpreted,
 }
 
-// Whether a word says how a request came out.
+// Whether a word is the answer to a request.
 pub fn tells_request(word: &[u8]) -> bool
     ensures { result ≡ tells_request word.now }
 {
@@ -50,7 +51,7 @@ pub fn tells_request(word: &[u8]) -> bool
         || word == b"KILLED".as_slice()
 }
 
-// Whether a word says that a line tells of no request.
+// Whether a word says that a line logs no request.
 fn tells_else(word: &[u8]) -> bool
     ensures { result ≡ tells_else word.now }
 {
@@ -71,14 +72,14 @@ fn text_at<'a>(
     }
 }
 
-// The same of a value that is always between quotes.
+// The text of a key's value that is always in quotes, if both are there.
 fn quoted_at<'a>(line: &'a [u8], key: &[u8]) -> Option<&'a [u8]>
     ensures { option_map (λ text. text.now) result ≡ quoted_at key.now line.now }
 {
     quoted_text(value_of(line, key)?)
 }
 
-// Whether what a line tells of is asked of the host's own policy.
+// Whether a line's request is decided by the host's own policy.
 fn is_of_host(line: &[u8]) -> bool
     ensures { result ≡ is_of_host line.now }
 {
@@ -88,7 +89,7 @@ fn is_of_host(line: &[u8]) -> bool
     }
 }
 
-// Whether a line's class, where it tells one, is one of requests that questions ask.
+// Whether a line's class, if it has one, is one of requests that questions ask.
 fn has_asked_class(line: &[u8]) -> bool
     ensures { result ≡ has_asked_class line.now }
 {
@@ -102,7 +103,7 @@ fn has_asked_class(line: &[u8]) -> bool
     }
 }
 
-// Who asks.
+// The asker.
 #[derive(Drop)]
 pub enum Asker<'a> {
     One(Option<LoggedText<'a>>),
@@ -117,7 +118,7 @@ fn is_of_several(label: &[u8]) -> bool
     others.is_some()
 }
 
-// Who asks by a label.
+// The asker of a label.
 fn labelled(label: Option<LoggedText<'_>>) -> Asker<'_>
     ensures { seen_asker result ≡ labelled (option_map seen_text label.entry) }
 {
@@ -127,7 +128,7 @@ fn labelled(label: Option<LoggedText<'_>>) -> Asker<'_>
     }
 }
 
-// Who asks by what a line tells.
+// The asker of a line.
 pub fn asker_of(alloc: Global, line: &[u8]) -> Result<Asker<'_>, AllocError>
     ensures { IfOk result (λ asker. seen_asker asker ≡ asker_of line.now) }
 {
@@ -148,7 +149,7 @@ fn owned_in(line: &[u8]) -> Option<bool>
     }
 }
 
-// Whether a word stands in a line, where no other that begins with it stands before.
+// Whether a line contains a word, which no earlier word of the line begins with.
 fn has_word(line: &[u8], word: &[u8]) -> bool
     ensures { result ≡ has_word word.now line.now }
 {
@@ -182,7 +183,7 @@ fn is_learning(name: &[u8]) -> bool
     false
 }
 
-// Whether who asks in a line is a learning profile.
+// Whether the asker of a line is a learning profile.
 fn is_of_learning(line: &[u8], who: &Option<LoggedText<'_>>) -> bool
     ensures { result ≡ is_of_learning line.now (option_map seen_text who.now) }
 {
@@ -205,7 +206,7 @@ fn is_local(line: &[u8], family: &[u8]) -> bool
     }
 }
 
-// A question as what a line tells of, if it can be asked.
+// A question as what a line holds, if it can be asked.
 fn told_of(question: Option<LoggedQuestion<'_>>) -> LogLine<'_>
     ensures { seen_line result ≡ told_of (option_map seen_logged question.entry) }
 {
@@ -215,7 +216,7 @@ fn told_of(question: Option<LoggedQuestion<'_>>) -> LogLine<'_>
     }
 }
 
-// What a line tells of that has a mask.
+// What a line with a mask holds.
 fn file_told<'a>(
     alloc: Global,
     line: &'a [u8],
@@ -235,7 +236,7 @@ fn file_told<'a>(
     Ok(told_of(file_asked(who, quoted_text(mask), owned_in(line), path)))
 }
 
-// What a line tells of that has the family of a socket.
+// What a line with the family of a socket holds.
 fn sockets_told<'a>(line: &'a [u8], who: Option<LoggedText<'a>>, family: &[u8]) -> LogLine<'a>
     ensures { seen_line result ≡ sockets_told line.now (option_map seen_text who.entry) family.now }
 {
@@ -246,7 +247,7 @@ fn sockets_told<'a>(line: &'a [u8], who: Option<LoggedText<'a>>, family: &[u8]) 
     told_of(sockets_asked(who, quoted_text(family), sort))
 }
 
-// What a line tells of that tells of a request of one that is no learning profile.
+// What a line holds that logs a request of one profile, which is no learning profile.
 fn asked_of<'a>(
     alloc: Global,
     line: &'a [u8],
@@ -266,7 +267,7 @@ fn asked_of<'a>(
     }
 }
 
-// What a line tells of that tells of a request of one.
+// What a line holds that logs a request of one profile.
 fn asked_by_one<'a>(
     alloc: Global,
     line: &'a [u8],
@@ -280,7 +281,7 @@ fn asked_by_one<'a>(
     asked_of(alloc, line, who)
 }
 
-// What a line tells of that tells of a request.
+// What a line holds that logs a request.
 fn request_told(alloc: Global, line: &[u8]) -> Result<LogLine<'_>, AllocError>
     ensures { IfOk result (λ told. seen_line told ≡ request_told line.now) }
 {
@@ -293,7 +294,7 @@ fn request_told(alloc: Global, line: &[u8]) -> Result<LogLine<'_>, AllocError>
     }
 }
 
-// What a line of a program tells of that decides itself.
+// What a line holds of a program that decides itself.
 fn told_as_program<'a>(word: Option<&[u8]>) -> LogLine<'a>
     ensures { seen_line result ≡ told_as_program (option_map (λ word. word.now) word.entry) }
 {
@@ -304,7 +305,7 @@ fn told_as_program<'a>(word: Option<&[u8]>) -> LogLine<'a>
     }
 }
 
-// What a line tells of whose pair of `apparmor` has a value without quotes.
+// What a line holds whose pair of `apparmor` has a value without quotes.
 fn told_interpreted<'a>(word: &[u8]) -> LogLine<'a>
     ensures { seen_line result ≡ told_interpreted word.now }
 {
@@ -317,7 +318,7 @@ fn told_interpreted<'a>(word: &[u8]) -> LogLine<'a>
     }
 }
 
-// What a message tells of.
+// What a message holds.
 pub fn told_by_message(alloc: Global, message: &[u8]) -> Result<LogLine<'_>, AllocError>
     ensures { IfOk result (λ told. seen_line told ≡ told_by_message message.now) }
 {
@@ -336,7 +337,7 @@ pub fn told_by_message(alloc: Global, message: &[u8]) -> Result<LogLine<'_>, All
 }
 
 impl<'a> LogLine<'a> {
-    /// The same, that borrows from no line.
+    /// What the line holds, copied so that it borrows from no line.
     ///
     /// # Errors
     ///
@@ -356,9 +357,9 @@ impl<'a> LogLine<'a> {
     }
 }
 
-/// What a line of a log tells of, with or without its line's end: a line of a kernel's, as audit.log, syslog, `dmesg` and `journalctl` have it, or a
-/// record of the system's journal, as `journalctl -o json` writes one. The line is any bytes. Memory is taken for the bytes of names alone that the line
-/// has in hexadecimal, and for a record (docs/aatry.md, "What is read of a log").
+/// What a line of a log holds, with or without its line's end: a line of a kernel's, as audit.log, syslog, `dmesg` and `journalctl` have it, or a
+/// record of the system's journal, as `journalctl -o json` writes one. The line is any bytes. It takes memory only for the bytes of names that the
+/// line has in hexadecimal, and for a record (docs/aatry.md, "What is read of a log").
 ///
 /// # Errors
 ///

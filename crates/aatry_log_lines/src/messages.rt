@@ -9,18 +9,18 @@ use aa_bytes::begins_with_byte;
 use serde_json::{Category, Value};
 use std::alloc::{AllocError, Global};
 
-/// What a line has of a message.
+/// The message of a line.
 #[derive(Drop)]
 pub enum Message {
-    /// None: it is no record of one.
+    /// None: it is no record with a message.
     NoMessage,
     /// The message's bytes.
     Whole(Vec<u8>),
-    /// One that can't be read.
+    /// A message that can't be read.
     Broken,
 }
 
-// The byte of a value, if it is the number of one.
+// The byte of a value that is the number of one.
 fn byte_of(value: &Value) -> Option<u8>
     ensures { result ≡ byte_of (view value.now) }
 {
@@ -32,7 +32,7 @@ fn byte_of(value: &Value) -> Option<u8>
     }
 }
 
-// The bytes of some values, if each of them is one.
+// The bytes of some values, if each of them is a byte.
 #[tactic(auto, using(crate::proofs::MessageLemmas::bytes_of_more, crate::proofs::MessageLemmas::bytes_of_none))]
 fn bytes_of(alloc: Global, values: &[Value]) -> Result<Option<Vec<u8>>, AllocError>
     ensures { IfOk result (λ found. option_map (λ bytes. bytes.items) found ≡ bytes_of (items_view values.now)) }
@@ -49,7 +49,7 @@ fn bytes_of(alloc: Global, values: &[Value]) -> Result<Option<Vec<u8>>, AllocErr
     Ok(Some(bytes))
 }
 
-// The message of a value, if that is no text.
+// The message of a value that is no text.
 fn message_listed(alloc: Global, value: &Value) -> Result<Message, AllocError>
     ensures { IfOk result (λ message. seen_message message ≡ message_listed (as_array (view value.now))) }
 {
@@ -83,8 +83,8 @@ fn message_of(alloc: Global, value: &Value) -> Result<Message, AllocError>
 }
 
 /// The message in a line that is a record of the system's journal, as `journalctl -o json` writes one: an object of JSON with a text by the name
-/// `MESSAGE`, or with a list of the numbers of its bytes. A list that has something else can't be read. Another line has none, and takes no memory where it
-/// doesn't begin with `{`.
+/// `MESSAGE`, or with a list of the numbers of its bytes. A list that has something else can't be read. Any other line has none, and takes no memory
+/// where it doesn't begin with `{`.
 ///
 /// # Errors
 ///

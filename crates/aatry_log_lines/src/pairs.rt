@@ -15,7 +15,7 @@ fn word_size(text: &[u8]) -> usize
     length_while(text, |byte| byte > b' ')
 }
 
-// The first word of a text, and what stands behind the byte that ends it, if there is one.
+// The first word of a text, and what follows the byte that ends it, if there is one.
 fn first_word(text: &[u8]) -> (&[u8], Option<&[u8]>)
     ensures words { words text.now ≡ result.0.now ∷ option_map_or (λ rest. words rest.now) result.1 [] }
     ensures shorter { IfSome result.1 (λ rest. length rest.now < length text.now) }
@@ -28,7 +28,8 @@ fn first_word(text: &[u8]) -> (&[u8], Option<&[u8]>)
     }
 }
 
-/// The value of a key in a line, if the line has a pair of that key: of the first such pair. The key is given with its `=`. It takes no memory.
+/// The value of a key in a line, if the line has a pair of that key: of the first such pair. The key is given with its `=`. `O(n)` in the line's
+/// length. It takes no memory.
 pub fn value_of<'a>(line: &'a [u8], key: &[u8]) -> Option<&'a [u8]>
     ensures { option_map (λ value. value.now) result ≡ value_of key.now line.now }
 {

@@ -1,4 +1,4 @@
-//! Which lines of a log are asked for.
+//! Which lines of a log count.
 
 ghost use Rattle.std.specs.Prelude.{◌≡◌, IfOk, option_map};
 ghost use Rattle.aatry_log_lines.specs.Selections.{ends_name, is_another, is_before, is_of_another, is_passed_over, is_undenied, is_within};
@@ -12,18 +12,18 @@ use crate::values::quoted_text;
 use aa_bytes::{begins_with, behind};
 use std::alloc::{AllocError, Global};
 
-/// Which lines of a log are asked for. Of all of these, a line is passed over that says itself that it isn't one of them.
+/// Which lines of a log count. A line is passed over that shows by itself that it isn't one of them.
 #[derive(Clone, Copy)]
 pub struct Selection<'s> {
-    /// Whether those alone are asked for that tell of a request as DENIED.
+    /// Whether only lines count that log a request as DENIED.
     pub denied: bool,
-    /// The profile that asks, by its full name, or a child or hat of it asks, if those of one alone are asked for.
+    /// The profile whose requests count, by its full name, with its children and hats, if only those of one do.
     pub profile: Option<&'s [u8]>,
-    /// The first second, since 1970, by which a line may be stamped, if there is one.
+    /// The first second, since 1970, with which a line may be stamped, if there is one.
     pub since: Option<u64>,
 }
 
-// The word of a line that says how a request came out, or something else.
+// The word of a line that is the answer to a request, or something else.
 fn word_in(line: &[u8]) -> Option<&[u8]>
     ensures { option_map (λ word. word.now) result ≡ word_in line.now }
 {
@@ -40,7 +40,7 @@ fn is_undenied(word: &[u8]) -> bool
     tells_request(word) && word != b"DENIED".as_slice()
 }
 
-// Whether a line says so.
+// Whether a line logs a request that wasn't denied.
 fn tells_undenied(line: &[u8]) -> bool
     ensures { result ≡ tells_undenied line.now }
 {
@@ -50,21 +50,21 @@ fn tells_undenied(line: &[u8]) -> bool
     }
 }
 
-// Whether a name may end where this stands behind it: nothing, or the name of a child or hat.
+// Whether a name may end before this text: it is empty, or the name of a child or hat.
 fn ends_name(rest: &[u8]) -> bool
     ensures { result ≡ ends_name rest.now }
 {
     rest.is_empty() || begins_with(b"//", rest)
 }
 
-// Whether somebody is the profile of a name, or a child or hat of it.
+// Whether an asker is the profile of a name, or a child or hat of it.
 fn is_within(name: &[u8], who: &[u8]) -> bool
     ensures { result ≡ is_within name.now who.now }
 {
     begins_with(name, who) && ends_name(behind(name.len(), who))
 }
 
-// Whether who asks is one by a name that can be read, and isn't one of these.
+// Whether the asker is one by a name that can be read, and isn't the profile of a name, or a child or hat of it.
 fn is_another(name: &[u8], asker: &Asker<'_>) -> bool
     ensures { result ≡ is_another name.now (seen_asker asker.now) }
 {
@@ -74,7 +74,7 @@ fn is_another(name: &[u8], asker: &Asker<'_>) -> bool
     }
 }
 
-// Whether a line says that another asks than a profile that is asked for, if one is.
+// Whether the asker of a line is another than the selected profile, if one is selected.
 fn is_of_another(alloc: Global, name: Option<&[u8]>, line: &[u8]) -> Result<bool, AllocError>
     ensures { IfOk result (λ is. is ≡ is_of_another (option_map (λ name. name.now) name.entry) line.now) }
 {
@@ -84,7 +84,7 @@ fn is_of_another(alloc: Global, name: Option<&[u8]>, line: &[u8]) -> Result<bool
     Ok(is_another(name, &asker_of(alloc, line)?))
 }
 
-// Whether a time lies before the one from which on is asked, if both are there.
+// Whether a time is before the first one that counts, if both are there.
 fn is_before(since: Option<u64>, time: Option<u64>) -> bool
     ensures { result ≡ is_before since time }
 {
@@ -94,7 +94,7 @@ fn is_before(since: Option<u64>, time: Option<u64>) -> bool
     }
 }
 
-/// Whether a line is passed over, which is no record of the journal. Memory is taken for the name alone of who asks that the line has in hexadecimal.
+/// Whether a line that is no record of the journal is passed over. It takes memory only for the asker's name where the line has it in hexadecimal.
 ///
 /// # Errors
 ///

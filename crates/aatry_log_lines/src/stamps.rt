@@ -8,7 +8,7 @@ use crate::pairs::value_of;
 use aa_bytes::length_while;
 use aatry_words::number_of;
 
-// How many bytes stand ahead of the first dot.
+// How many bytes are before the first dot; all, where there is none.
 fn size_before_dot(text: &[u8]) -> usize
     ensures value { result ≡ position_or_len is_dot text.now }
     ensures within { result ≤ length text.now }
@@ -16,7 +16,7 @@ fn size_before_dot(text: &[u8]) -> usize
     length_while(text, |byte| byte != b'.')
 }
 
-// What stands behind the opening of a line's first stamp as the kernel writes it, or else as auditd does.
+// What follows the opening of a line's first stamp as the kernel writes it, or else as auditd does.
 fn stamp_in(line: &[u8]) -> Option<&[u8]>
     ensures { option_map (λ stamp. stamp.now) result ≡ stamp_in line.now }
 {
@@ -38,8 +38,8 @@ fn seconds_of(stamp: &[u8]) -> Option<u64>
     }
 }
 
-/// When what a line tells of came, where the line has a stamp `audit(SECONDS.MILLISECONDS:SERIAL)`: the seconds since 1970, of a time before the year
-/// 10000. It takes no memory.
+/// When a line was logged that has a stamp `audit(SECONDS.MILLISECONDS:SERIAL)`: the seconds since 1970, of a time before the year 10000; else
+/// `None`. It takes no memory.
 pub fn time_in(line: &[u8]) -> Option<u64>
     ensures { result ≡ time_in line.now }
 {

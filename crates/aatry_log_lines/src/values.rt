@@ -1,4 +1,4 @@
-//! What the values of pairs say.
+//! The texts of the values of pairs.
 
 ghost use Rattle.std.specs.Prelude.{◌≡◌, ◌≤◌, option_map, IfOk, length};
 ghost use Rattle.std.specs.List.{position_or_len};
@@ -11,7 +11,7 @@ use std::alloc::{AllocError, Global};
 /// A text of a line: as the line has it, or decoded.
 #[derive(Drop)]
 pub enum LoggedText<'a> {
-    /// It stands in the line, between quotes.
+    /// The line has it in quotes.
     Written(&'a [u8]),
     /// The line has it in hexadecimal.
     Decoded(Vec<u8>),
@@ -28,7 +28,7 @@ impl<'a> LoggedText<'a> {
         }
     }
 
-    /// The same text, that borrows from no line.
+    /// The same text, which borrows from no line.
     ///
     /// # Errors
     ///
@@ -43,7 +43,7 @@ impl<'a> LoggedText<'a> {
     }
 }
 
-// How many bytes stand before the first quote.
+// How many bytes are before the first quote; all, where there is none.
 fn size_before_quote(text: &[u8]) -> usize
     ensures value { result ≡ position_or_len is_quote text.now }
     ensures within { result ≤ length text.now }
@@ -51,7 +51,7 @@ fn size_before_quote(text: &[u8]) -> usize
     length_while(text, |byte| byte != b'"')
 }
 
-// What stands before the first quote, if that stands at the end.
+// What is before the first quote, if that is at the end.
 fn before_last_quote(text: &[u8]) -> Option<&[u8]>
     ensures { option_map (λ found. found.now) result ≡ before_last_quote text.now }
 {
@@ -59,7 +59,7 @@ fn before_last_quote(text: &[u8]) -> Option<&[u8]>
     if rest.len() == 1 { Some(before) } else { None }
 }
 
-/// The text of a value that is written between quotes. It takes no memory.
+/// The text of a value that is written in quotes. It takes no memory.
 pub fn quoted_text(value: &[u8]) -> Option<&[u8]>
     ensures { option_map (λ text. text.now) result ≡ quoted_text value.now }
 {
@@ -80,7 +80,7 @@ fn decoded_text(alloc: Global, value: &[u8]) -> Result<Option<Vec<u8>>, AllocErr
     }
 }
 
-/// The text of a value, if it has one: it is written between quotes, or in hexadecimal. Only the latter takes memory.
+/// The text of a value, if it has one: it is written in quotes, or in hexadecimal. Only the latter takes memory.
 ///
 /// # Errors
 ///

@@ -1,4 +1,4 @@
--- What the requests of logs want of the rules of a policy set.
+-- The rules of a policy set that the requests of logs want.
 use Rattle.std.specs.Prelude.{◌≡◌, ℕ, ◌+◌, List, [], ◌∷◌, ◌++◌, fold}
 use Rattle.aa_decide_ready.specs.Entries.{Loaded}
 use Rattle.aa_set_answers.specs.Answers.{who_asks}
@@ -12,44 +12,44 @@ use Rattle.aatry_requests.specs.Questions.{rule_request}
 use Rattle.aatry_requests.specs.SeenTallies.{seen_all}
 use Rattle.aatry_requests.specs.Tallies.{Tally}
 
--- what rules are wanted for, the requests of which a rule denies something, and how many nobody asks who is there
+-- the wanted requests, the requests of which a rule denies something, and how many have an asker that isn't loaded
 pub record Wants : Type 0 where
   pub wanted : List Wanted
   pub denied : List Tally
   pub nobody : ℕ
 
--- those of the code
+-- the wants of the code
 abbrev pub seen_wants : RuleWants → Wants
 seen_wants wants = record { wanted = wants.wanted; denied = seen_all wants.denied.items; nobody = wants.nobody }
 
--- none
+-- no requests
 abbrev pub nothing : Wants
 nothing = record { wanted = []; denied = []; nobody = 0 }
 
--- what a request wants that lacks something
+-- the wanted request of a tally that lacks something
 abbrev pub wanted_of : Tally → Wanted
 wanted_of tally = record { who = who_asks tally.question; request = rule_request tally.question; times = tally.times }
 
--- with a request that comes to this
+-- the wants with a request of this outcome
 abbrev pub with_outcome : Tally → Wants → Outcome → Wants
 with_outcome tally wants Allowed = wants
 with_outcome tally wants Nobody = record wants { nobody = wants.nobody + 1 }
 with_outcome tally wants Denied = record wants { denied = wants.denied ++ tally ∷ [] }
 with_outcome tally wants Lacks = record wants { wanted = wanted_with (wanted_of tally) wants.wanted }
 
--- what a request comes to
+-- the outcome of a request
 abbrev pub outcome_for : List Loaded → Tally → Outcome
 outcome_for entries tally = outcome_in entries (who_asks tally.question) (rule_request tally.question)
 
--- with a request
+-- the wants with a request
 abbrev pub with_tally : List Loaded → Wants → Tally → Wants
 with_tally entries wants tally = with_outcome tally wants (outcome_for entries tally)
 
--- what requests want, in this order
+-- the wants of requests, in this order
 abbrev pub gathered : List Loaded → List Tally → Wants
 gathered entries tallies = fold (with_tally entries) nothing tallies
 
--- what some requests want, those first that came most often
+-- the wants of some requests, the most frequent first
 pub record IsGathered (entries : List Loaded) (tallies : List Tally) (wants : Wants) : Type 0 where
   pub asked : List Tally
   pub order : IsMostAskedFirst tallies asked

@@ -1,4 +1,4 @@
--- What the law on the rules that are told asks of requests, and what it says of them.
+-- Definitions for the law on the rules to add.
 use Rattle.std.specs.Prelude.{◌≡◌, ◌≢◌, ◌⊎◌, ◌++◌, Bool, List}
 use Rattle.std.specs.List.{Contains}
 use Rattle.aa_decide.specs.Exec.{Asker}
@@ -25,16 +25,16 @@ use Rattle.aatry_requests.specs.Tallies.{Tally}
 abbrev pub CanCome : Tally → Type 0
 CanCome tally = CanBeAsked tally.question
 
--- it is told that there is no rule to add: one is in its way, or it can't be written
+-- it is reported that there is no rule to add: one is in its way, or it can't be written
 abbrev pub IsToldWithout : Finding → Type 0
 IsToldWithout found = (found ≡ finding.None InTheWay) ⊎ (found ≡ finding.None Unwritten)
 
--- with these rules behind the own ones of who asks, a request is allowed, in each mode, and whether all are audited or not
+-- with these rules after the asker's own ones, a request is allowed, in each mode, and whether all are audited or not
 abbrev pub IsLet : Asker → List Rule → Request → Type 0
 IsLet who more request = (mediation : Mediation) (audit : Bool) → (verdict mediation audit (own_rules who ++ more) request).answer ≡ Allow
 
--- A request that lacks something is within something that is wanted of the same who asks, and that lacks something too; and with all rules that are found
--- for who asks it is allowed, unless it is told of this that there is no rule to add.
+-- A request that lacks something is within a wanted one of the same asker, which lacks something too; and with all rules that are found for the
+-- asker it is allowed, unless it is reported of this that there is no rule to add.
 pub record IsServed (entries : List Loaded) (who : Asker) (wanted : List Wanted) (tally : Tally) : Type 0 where
   pub within : Wanted
   pub there : Contains wanted within

@@ -1,4 +1,4 @@
--- What the telling of rules goes by in the code, as the definitions see it.
+-- What the printing of rules needs in the code, as the definitions see it.
 use Rattle.std.specs.Prelude.{map}
 use Rattle.aa_decide_ready.specs.Slots.{filled}
 use Rattle.aatry_abstractions.specs.SeenLetting.{seen_letting}
@@ -19,6 +19,6 @@ seen_telling telling = record {
   lettings = map seen_letting telling.abstractions.now;
 }
 
--- an abstraction that lets some of what who asks wants
+-- an abstraction that allows some of the asker's wanted requests
 abbrev pub seen_offer : CodeOffer → Offer
 seen_offer offer = record { name = offer.name.now; number = offer.number }

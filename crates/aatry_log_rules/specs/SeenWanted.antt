@@ -1,4 +1,4 @@
--- What is wanted, of the code, as the definitions see it: each stands under the text that it is told by.
+-- The wanted requests of the code, as the definitions see them: each has the text by which it is printed as its key.
 use Rattle.std.specs.Prelude.{◌≡◌, ℕ, List, map, Vec}
 use Rattle.std.specs.List.{All}
 use Rattle.std.specs.declared.alloc.Global.{Global}
@@ -10,7 +10,7 @@ use Rattle.aatry_requests.specs.Texts.{question_text}
 abbrev pub seen_wanted : CodeWanted → Wanted
 seen_wanted wanted = record { who = wanted.who.now; request = request_of wanted.request; times = wanted.times }
 
--- an entry: the text and what is wanted
+-- an entry: the text and the wanted request
 abbrev pub Entry : Type 0
 Entry = Vec ℕ Global × CodeWanted
 

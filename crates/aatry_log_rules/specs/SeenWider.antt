@@ -1,4 +1,4 @@
--- The wider rules that are told, of the code, as the definitions see them.
+-- The printed wider rules of the code, as the definitions see them.
 use Rattle.std.specs.Prelude.{ℕ, List, Vec, map}
 use Rattle.std.specs.declared.alloc.Global.{Global}
 

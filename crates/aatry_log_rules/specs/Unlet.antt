@@ -1,4 +1,4 @@
--- Requests for which there is no rule to add, as they are told.
+-- Requests for which there is no rule to add, as they are printed.
 use Rattle.std.specs.Prelude.{ℕ, ◌==◌, Bool, if◌then◌else◌, List, [], ◌∷◌, ◌++◌, codes}
 use Rattle.serde_json.specs.Data.{Members}
 use Rattle.aa_bytes.specs.Bytes.{line_feed}
@@ -20,17 +20,17 @@ reason_words Denied = codes "a rule denies it"
 reason_words InTheWay = codes "a rule is in the way"
 reason_words Unwritten = codes "its rule can't be written"
 
--- what is asked of a file: with `x` alone whether its program may be started
+-- the question for a file: with `x` alone whether its program may be started
 abbrev pub file_question : List ℕ → ℕ → Bool → List ℕ → Question
 file_question who needs owned path = if needs == EXEC then OfExec who owned path else OfAccess who (ForFile needs owned path)
 
--- the question that asks for a request of who asks
+-- the question for a request of the asker
 abbrev pub question_for : List ℕ → Request → Question
 question_for who (ForFile needs owned path) = file_question who needs owned path
 question_for who (ForCapability number) = OfAccess who (ForCapability number)
 question_for who (ForSockets domain kind) = OfAccess who (ForSockets domain kind)
 
--- the question that asks what is wanted
+-- the question of a wanted request
 abbrev pub question_of : Wanted → Question
 question_of wanted = question_for wanted.who wanted.request
 
@@ -39,7 +39,7 @@ abbrev pub unlet_line : NoRule → Question → ℕ → List ℕ
 unlet_line reason question times =
     codes "# " ++ reason_words reason ++ codes ": " ++ question_text question ++ codes ", " ++ asked_text times ++ line_feed ∷ []
 
--- and as a record
+-- the record of a question without a rule
 abbrev pub unlet_record : NoRule → Question → ℕ → Members
 unlet_record reason question times =
     with_number (codes "times") times (with_text (codes "reason") (reason_words reason)

@@ -1,4 +1,4 @@
--- Wider rules than those that are told, as they are offered beside them.
+-- Wider rules than the printed ones, as they are offered beside them.
 use Rattle.std.specs.Prelude.{ℕ, Bool, if◌then◌else◌, List, [], ◌∷◌, ◌++◌, codes, Option, None, Some}
 use Rattle.std.specs.List.{list_any}
 use Rattle.std.specs.Str.{bytes_eq}
@@ -27,16 +27,16 @@ wider_than (ForFile needs owned path) rule = wider_on path rule
 wider_than (ForCapability number) rule = None
 wider_than (ForSockets domain kind) rule = None
 
--- the same of what is found for a request, where wider rules are asked for
+-- the wider rule than what is found for a request, where wider rules are asked for
 abbrev pub wider_for : Bool → Request → Finding → Option (List ℕ)
 wider_for globs request (finding.Missing rule) = if globs then wider_than request rule else None
 wider_for globs request (finding.None reason) = None
 
--- texts have one
+-- a text is among some
 abbrev pub has_text : List ℕ → List (List ℕ) → Bool
 has_text text texts = list_any (bytes_eq text) texts
 
--- the texts of wider rules that are told, and this one
+-- the texts of wider rules that are printed, with this one
 abbrev pub with_told : List ℕ → List (List ℕ) → List (List ℕ)
 with_told text told = if has_text text told then told else told ++ text ∷ []
 
@@ -48,12 +48,12 @@ told_with (Some text) told = with_told text told
 abbrev pub wider_line : List ℕ → List ℕ
 wider_line text = codes "  # wider: " ++ text ++ line_feed ∷ []
 
--- the same unless it is told; records have it in that of its rule
+-- a wider rule on a line of its own unless it is printed already; records have it in that of its rule
 abbrev pub wider_once : Form → Bool → List ℕ → List ℕ
 wider_once Lines told text = if told then [] else wider_line text
 wider_once Records told text = []
 
--- a wider rule, if there is one, behind those that are told
+-- a wider rule, if there is one, by those that are printed already
 abbrev pub wider_text : Form → List (List ℕ) → Option (List ℕ) → List ℕ
 wider_text form told None = []
 wider_text form told (Some text) = wider_once form (has_text text told) text

@@ -1,4 +1,4 @@
-//! Who asks, by the rules that it decides by.
+//! Askers, by the rules that they decide by.
 
 ghost use Rattle.std.specs.Prelude.{◌≡◌, IfOk};
 ghost use Rattle.std.specs.Option.{option_map};
@@ -17,12 +17,12 @@ use aa_profile_data::Request;
 use aa_set_answers::find_asker;
 use std::alloc::{AllocError, Global};
 
-/// What a request of a log comes to, by the rules of who asks.
+/// The outcome of a request of a log, by the rules of its asker.
 #[derive(Clone, Copy)]
 pub enum Outcome {
-    /// Nobody of the name is loaded.
+    /// No profile, child or hat of the name is loaded.
     Nobody,
-    /// It is allowed, or no rule is asked.
+    /// It is allowed, or no rule decides.
     Allowed,
     /// A rule denies something of it.
     Denied,
@@ -30,7 +30,7 @@ pub enum Outcome {
     Lacks,
 }
 
-// What an answer says.
+// The outcome of an answer.
 fn outcome_of(answer: Answer) -> Outcome
     ensures { result ≡ outcome_of answer }
 {
@@ -41,7 +41,7 @@ fn outcome_of(answer: Answer) -> Outcome
     }
 }
 
-// What the rules of who asks say of a request, as in enforce mode.
+// The outcome of a request by the asker's rules, as in enforce mode.
 fn outcome_by(alloc: Global, asker: Asker<'_>, request: &Request<'_>) -> Result<Outcome, AllocError>
     ensures { IfOk result (λ outcome. outcome ≡ outcome_by (seen_asker asker.entry) (request_of request.entry.now)) }
 {
@@ -50,7 +50,7 @@ fn outcome_by(alloc: Global, asker: Asker<'_>, request: &Request<'_>) -> Result<
     Ok(outcome_of(verdict.answer))
 }
 
-// The same by what confines who asks: in mode unconfined no rule is asked.
+// The outcome of a request by what confines the asker: in mode unconfined no rule decides.
 fn outcome_under(
     alloc: Global,
     asker: Asker<'_>,
@@ -64,8 +64,8 @@ fn outcome_under(
     }
 }
 
-/// What a request comes to of who asks, by a full name or as the word `unconfined`, by the rules of the loaded profile, child or hat; whatever its mode
-/// is, unless that is `unconfined`, and also where it is disabled.
+/// The outcome of a request for the asker, by a full name or as the word `unconfined`, by the rules of the loaded profile, child or hat; whatever
+/// its mode is, unless that is `unconfined`, and also where it is disabled.
 ///
 /// # Errors
 ///
@@ -85,7 +85,7 @@ pub fn outcome_in(
     }
 }
 
-/// The rules by which who asks decides; none where nobody of the name is loaded.
+/// The rules by which the asker decides; none where nothing of the name is loaded.
 pub fn rules_by<'a>(slots: &IndexedSlots<'a>, who: &[u8]) -> AskedRules<'a>
     ensures { rules_of result ≡ rules_by (asker (filled slots.now) who.now) }
 {

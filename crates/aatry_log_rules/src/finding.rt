@@ -1,4 +1,4 @@
-//! The rule that is missing for what is wanted.
+//! The rule that is missing for a wanted request.
 
 ghost use Rattle.std.specs.Prelude.{◌≡◌, IfOk, is_some};
 ghost use Rattle.aa_decide_ready.specs.Slots.{filled};
@@ -16,7 +16,7 @@ use aa_explain_written::written_rule;
 use aa_profile_data::{Request, Rule};
 use std::alloc::{AllocError, Global};
 
-/// Why no rule is told for a request.
+/// Why there is no rule to add for a request.
 #[derive(Clone, Copy)]
 pub enum NoRule {
     /// A rule denies something of it.
@@ -27,12 +27,12 @@ pub enum NoRule {
     Unwritten,
 }
 
-/// What is found for what is wanted.
+/// The finding for a wanted request.
 #[derive(Drop)]
 pub enum Finding {
-    /// The rule that is missing.
+    /// The missing rule.
     Missing(Rule),
-    /// None.
+    /// No rule.
     None(NoRule),
 }
 
@@ -50,7 +50,7 @@ fn written_finding(alloc: Global, rule: Option<Rule>) -> Result<Finding, AllocEr
     }
 }
 
-// The finding of a request by some rules: the one that it lacks, unless some are in its way.
+// The finding for a request by some rules: the rule that it lacks, unless some are in its way.
 fn finding_in(
     alloc: Global,
     rules: AskedRules<'_>,
@@ -65,8 +65,8 @@ fn finding_in(
     written_finding(alloc, rule)
 }
 
-/// What is found for what is wanted: the rule that it lacks (`aa_explain_rules::missing_rule`), where none is in the way of it (`rules_in_the_way`) and it
-/// can be written (`aa_explain_written::written_rule`).
+/// The finding for a wanted request: the rule that it lacks (`aa_explain_rules::missing_rule`), where none is in the way of it (`rules_in_the_way`)
+/// and it can be written (`aa_explain_written::written_rule`).
 ///
 /// # Errors
 ///

@@ -1,4 +1,4 @@
-//! Rules to add, as they are told.
+//! Rules to add, as they are printed.
 
 ghost use Rattle.std.specs.Prelude.{◌≡◌, ◌++◌, IfOk, OnOk};
 ghost use Rattle.std.specs.Option.{option_copied};
@@ -48,7 +48,7 @@ fn put_wider(alloc: Global, wider: Option<&[u8]>, into: &mut Record) -> Result<(
     }
 }
 
-// The record of a rule to add for what is wanted, by the path of the file, with the wider one, if there is one.
+// The record of a rule to add for a wanted request, by the path of the file, with the wider rule, if there is one.
 fn rule_record(
     alloc: Global,
     path: &[u8],
@@ -69,9 +69,9 @@ fn rule_record(
     Ok(made)
 }
 
-/// Appends a rule to add for what is wanted to a text, and how often that was asked which it lets: a line, two spaces in, of the rule as it can be pasted and
-/// a comment; or a record of the kind `missing`, with the texts `rule`, `profile` and `file` and the number `times`, and with the text `wider` where there is
-/// a wider rule.
+/// Appends a rule to add for a wanted request to a text, and how often was asked what it allows: a line, two spaces in, of the rule as it can be
+/// pasted and a comment; or a record of the kind `missing`, with the texts `rule`, `profile` and `file` and the number `times`, and with the text
+/// `wider` where there is a wider rule.
 ///
 /// # Errors
 ///

@@ -1,4 +1,4 @@
-//! What the requests of logs want of the rules of a policy set.
+//! The rules of a policy set that the requests of logs want.
 
 ghost use Rattle.std.specs.Prelude.{◌≡◌, ◌≤◌, ◌<◌, ◌-◌, ◌^◌, ◌+◌, IfOk, OnOk};
 ghost use Rattle.aa_decide_ready.specs.Slots.{filled};
@@ -12,18 +12,18 @@ use aa_decide::IndexedSlots;
 use aatry_requests::{Tallies, Tally, most_asked_first, rule_request, who_asks};
 use std::alloc::{AllocError, Global};
 
-/// What requests want of the rules of a policy set.
+/// The rules of a policy set that requests want.
 #[derive(Drop)]
 pub struct RuleWants<'t, 'a> {
-    /// What rules are wanted for: the requests that lack something.
+    /// The requests that lack something, for which rules are wanted.
     pub wanted: WantedRules<'t>,
     /// The requests of which a rule denies something.
     pub denied: Vec<&'t Tally<'a>>,
-    /// How many requests nobody asks who is loaded.
+    /// How many requests have an asker that isn't loaded.
     pub nobody: usize,
 }
 
-// What a tally wants.
+// The wanted request of a tally.
 fn wanted_of<'t>(tally: &'t Tally<'_>) -> Wanted<'t>
     ensures { seen_wanted result ≡ wanted_of (seen_tally tally.now) }
 {
@@ -36,7 +36,7 @@ fn wanted_of<'t>(tally: &'t Tally<'_>) -> Wanted<'t>
 }
 
 impl<'t, 'a> RuleWants<'t, 'a> {
-    // Nothing.
+    // No requests.
     fn new(alloc: Global) -> RuleWants<'t, 'a>
         ensures { seen_wants result ≡ nothing }
     {
@@ -47,7 +47,7 @@ impl<'t, 'a> RuleWants<'t, 'a> {
         }
     }
 
-    // Notes what a tally came to.
+    // Notes the outcome of a tally.
     fn note(
         &mut self,
         alloc: Global,
@@ -72,7 +72,7 @@ impl<'t, 'a> RuleWants<'t, 'a> {
         }
     }
 
-    // Asks a policy set by a tally, and notes what that came to.
+    // Asks a policy set by a tally, and notes the outcome.
     fn ask(
         &mut self,
         alloc: Global,
@@ -89,7 +89,7 @@ impl<'t, 'a> RuleWants<'t, 'a> {
     }
 }
 
-/// What the requests of logs want of the rules of a policy set, in the order of those that came most often.
+/// The rules of a policy set that the requests of logs want, the most frequent first.
 ///
 /// # Errors
 ///

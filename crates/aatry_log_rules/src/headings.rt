@@ -1,4 +1,4 @@
-//! Whose rules come next.
+//! The headings of askers' rules.
 
 ghost use Rattle.std.specs.Prelude.{◌≡◌, ◌++◌, IfOk, OnOk};
 ghost use Rattle.std.specs.Option.{option_copied};
@@ -10,7 +10,7 @@ use aatry_policy::{Origin, file_of, origin_in};
 use aatry_report::{Form, path_below, push_shown};
 use std::alloc::{AllocError, Global};
 
-/// The path of the file in which the profile of who asks was read.
+/// The path of the file in which the asker's profile was read.
 ///
 /// # Errors
 ///
@@ -27,7 +27,7 @@ pub fn file_for(
     path_below(alloc, base, file_of(origin_in(origins, profile)))
 }
 
-// Appends the line to a text that tells whose rules come next, by the path of their file.
+// Appends the heading of an asker's rules to a text, by the path of their file.
 fn push_line(path: &[u8], who: &[u8], out: &mut Vec<u8>) -> Result<(), AllocError>
     ensures { OnOk result (out.new.items ≡ out.old.items ++ heading path.now who.now) }
 {
@@ -39,7 +39,7 @@ fn push_line(path: &[u8], who: &[u8], out: &mut Vec<u8>) -> Result<(), AllocErro
     Ok(())
 }
 
-/// Whether what came last is of who asks, too.
+/// Whether the last name is that of the asker, too.
 pub fn is_of(last: Option<&[u8]>, who: &[u8]) -> bool
     ensures { result ≡ is_of (option_copied last.entry) who.now }
 {
@@ -49,7 +49,7 @@ pub fn is_of(last: Option<&[u8]>, who: &[u8]) -> bool
     }
 }
 
-/// Appends the line to a text that tells whose rules come next; in records nothing.
+/// Appends the heading of an asker's rules to a text; records have none.
 ///
 /// # Errors
 ///

@@ -1,4 +1,4 @@
-//! What holds of the rules that are told, as a law over the definitions that the calls are proved to follow.
+//! What holds of the rules to add, as a law over the definitions that the calls are proved to follow.
 
 ghost use Rattle.std.specs.Prelude.{◌≡◌, List, Some};
 ghost use Rattle.std.specs.List.{All, Contains};
@@ -14,8 +14,8 @@ ghost use Rattle.aatry_requests.specs.Tallies.{Tally};
 use aa_explain_rules::what_joined_requests_let;
 use aatry_requests::what_texts_tell;
 
-/// With all rules that are told for who asks, behind its own, each of its requests is allowed that lacks something, unless it is told of its path that a
-/// rule is in the way, or that the rule can't be written; and that is told of nothing but what lacks a rule.
+/// With all rules to add for an asker, after its own, each of its requests is allowed that lacks something, unless it is reported of its path that a
+/// rule is in the way, or that the rule can't be written; and that is reported only of what lacks a rule.
 pub fn what_told_rules_let()
     ensures { (entries : List Loaded) (tallies : List Tally) (tally : Tally) (who : Asker)
         → All CanCome tallies → Contains tallies tally

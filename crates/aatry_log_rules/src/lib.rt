@@ -1,5 +1,5 @@
-//! `log --rules`: the requests of each who asks that lack something of a folder's policy, those for one path joined, the rule that is missing for each, and
-//! what rules can't let.
+//! `log --rules`: the requests of each asker that lack something of a folder's policy, those for one path joined, the rule that is missing for each,
+//! and what rules can't allow.
 #![tactic(auto)]
 
 mod asker;

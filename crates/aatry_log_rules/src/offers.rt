@@ -1,4 +1,4 @@
-//! Abstractions that let some of what is wanted of who asks, as they are told.
+//! Abstractions that allow some of the wanted requests of an asker, as they are printed.
 
 ghost use Rattle.std.specs.Prelude.{◌≡◌, ◌++◌, [], IfOk, OnOk, flat_map, map, slice_get};
 ghost use Rattle.aatry_abstractions.specs.SeenLetting.{seen_letting};
@@ -28,7 +28,7 @@ use aatry_abstractions::LettingAbstraction;
 use aatry_report::{Form, Record, push_number, push_shown};
 use std::alloc::{AllocError, Global};
 
-// Whether what is wanted at a place is of who asks.
+// Whether the wanted request at an index is the asker's.
 fn is_own(wanted: &[Wanted<'_>], who: &[u8], place: usize) -> bool
     ensures { result ≡ is_wanted_by who.now (slice_get (map seen_wanted wanted.now) place) }
 {
@@ -38,7 +38,7 @@ fn is_own(wanted: &[Wanted<'_>], who: &[u8], place: usize) -> bool
     }
 }
 
-// How many of these places are those of what who asks wants.
+// How many of these indexes are those of wanted requests of the asker.
 fn own_count(wanted: &[Wanted<'_>], who: &[u8], places: &[usize]) -> usize
     ensures { result ≡ own_count (map seen_wanted wanted.now) who.now places.now }
 {
@@ -63,7 +63,7 @@ fn push_include(name: &[u8], out: &mut Vec<u8>) -> Result<(), AllocError>
     Ok(())
 }
 
-// Appends how many of what is wanted an abstraction lets to a text.
+// Appends how many of the wanted requests an abstraction allows to a text.
 fn push_let(number: usize, out: &mut Vec<u8>) -> Result<(), AllocError>
     ensures { OnOk result (out.new.items ≡ out.old.items ++ let_text number) }
 {
@@ -71,7 +71,7 @@ fn push_let(number: usize, out: &mut Vec<u8>) -> Result<(), AllocError>
     out.extend_from_slice(b" of these")
 }
 
-// Appends the line of an abstraction that lets so many to a text.
+// Appends the line of an abstraction that allows so many to a text.
 fn push_line(name: &[u8], number: usize, out: &mut Vec<u8>) -> Result<(), AllocError>
     ensures { OnOk result (out.new.items ≡ out.old.items ++ offer_line name.now number) }
 {
@@ -81,7 +81,7 @@ fn push_line(name: &[u8], number: usize, out: &mut Vec<u8>) -> Result<(), AllocE
     Ok(())
 }
 
-// The record of an abstraction that lets so many of what who asks wants, by the path of the file of that one.
+// The record of an abstraction that allows so many of the asker's wanted requests, by the path of the asker's file.
 fn offer_record(
     alloc: Global,
     path: &[u8],
@@ -99,16 +99,16 @@ fn offer_record(
     Ok(made)
 }
 
-// An abstraction that lets some of what who asks wants.
+// An abstraction that allows some of the asker's wanted requests.
 #[derive(Clone, Copy)]
 pub struct Offer<'l> {
     // Its name.
     name: &'l [u8],
-    // How much it lets.
+    // How many it allows.
     number: usize,
 }
 
-// Appends an abstraction to others, if it lets some of what who asks wants.
+// Appends an abstraction to `found`, if it allows some of the asker's wanted requests.
 fn push_offer<'l>(
     wanted: &[Wanted<'_>],
     who: &[u8],
@@ -129,7 +129,7 @@ fn push_offer<'l>(
     Ok(())
 }
 
-// The abstractions that let some of what who asks wants, in their order.
+// The abstractions that allow some of the asker's wanted requests, in their order.
 fn offers_of<'l>(telling: &RuleTelling<'l, '_>, who: &[u8]) -> Result<Vec<Offer<'l>>, AllocError>
     ensures { IfOk result (λ found. map seen_offer found.items ≡ offers_of (seen_telling telling.now).wanted who.now (seen_telling telling.now).lettings) }
 {
@@ -142,10 +142,10 @@ fn offers_of<'l>(telling: &RuleTelling<'l, '_>, who: &[u8]) -> Result<Vec<Offer<
     Ok(found)
 }
 
-// How many lines tell of them at most.
+// How many lines there are of them at most.
 const MOST_LINES: usize = 5;
 
-// Appends how many more there are to a text, if there are.
+// Appends how many more abstractions there are to a text, if there are any.
 fn push_others(number: usize, out: &mut Vec<u8>) -> Result<(), AllocError>
     ensures { OnOk result (out.new.items ≡ out.old.items ++ others_line number) }
 {
@@ -158,7 +158,7 @@ fn push_others(number: usize, out: &mut Vec<u8>) -> Result<(), AllocError>
     Ok(())
 }
 
-// Appends the lines of some to a text.
+// Appends the lines of some abstractions to a text.
 fn push_lines(offers: &[Offer<'_>], out: &mut Vec<u8>) -> Result<(), AllocError>
     ensures { OnOk result (out.new.items ≡ out.old.items ++ flat_map offer_line_of (map seen_offer offers.now)) }
 {
@@ -170,7 +170,7 @@ fn push_lines(offers: &[Offer<'_>], out: &mut Vec<u8>) -> Result<(), AllocError>
     Ok(())
 }
 
-// Appends the records of some to a text.
+// Appends the records of some abstractions to a text.
 fn push_records(
     alloc: Global,
     path: &[u8],
@@ -188,7 +188,7 @@ fn push_records(
     Ok(())
 }
 
-// Appends the first few lines to a text, and how many more there are.
+// Appends the lines of the first few abstractions to a text, and how many more there are.
 fn push_first(offers: &[Offer<'_>], out: &mut Vec<u8>) -> Result<(), AllocError>
     ensures { OnOk result (out.new.items ≡ out.old.items ++ offers_text form.Lines [] [] (map seen_offer offers.now)) }
 {
@@ -197,8 +197,9 @@ fn push_first(offers: &[Offer<'_>], out: &mut Vec<u8>) -> Result<(), AllocError>
     push_others(offers.len() - told, out)
 }
 
-/// Appends the abstractions to a text that let some of what who asks wants, by the path of its file, and how much: a comment for each of the first five, and
-/// one for how many more there are; or a record of the kind `abstraction` for each, with the texts `name`, `profile` and `file` and the number `lets`.
+/// Appends the abstractions that allow some of the asker's wanted requests to a text, by the path of its file, and how many: a comment for each of
+/// the first five, and one for how many more there are; or a record of the kind `abstraction` for each, with the texts `name`, `profile` and `file`
+/// and the number `lets`.
 ///
 /// # Errors
 ///

@@ -1,4 +1,4 @@
-//! The rules with which the requests of logs are allowed, as they are told.
+//! The rules that allow the requests of logs, as they are printed.
 
 ghost use Rattle.std.specs.Prelude.{◌≡◌, ◌++◌, [], IfOk, List, None, OnOk, map};
 ghost use Rattle.std.specs.Option.{option_copied, option_map};
@@ -30,7 +30,7 @@ use aatry_report::Teller;
 use aatry_requests::{Tallies, Tally};
 use std::alloc::{AllocError, Global};
 
-// Appends what is found for what is wanted to a text, by the path of the file, as a record with the wider rule, if there is one.
+// Appends the finding for a wanted request to a text, by the path of the file, as a record with the wider rule, if there is one.
 fn push_finding(
     teller: Teller,
     path: &[u8],
@@ -64,8 +64,8 @@ fn as_slice(text: &Option<Vec<u8>>) -> Option<&[u8]>
     }
 }
 
-// Appends what is found for what is wanted to a text, by the path of the file, with the wider rule behind it that is asked for, if there is one, and it isn't
-// told yet.
+// Appends the finding for a wanted request to a text, by the path of the file, followed by the wider rule, if wider rules are asked for, there is
+// one, and it isn't printed yet.
 fn push_found(
     telling: &RuleTelling<'_, '_>,
     path: &[u8],
@@ -84,7 +84,7 @@ fn push_found(
     told.push(teller.form, wider, out)
 }
 
-// Appends to a text whose rules come next, and the abstractions that let some of them, where what came last was of somebody else.
+// Appends the heading of an asker's rules to a text, and the abstractions that allow some of its requests, where the last rule was another asker's.
 fn push_opening_behind(
     telling: &RuleTelling<'_, '_>,
     last: Option<&[u8]>,
@@ -101,7 +101,8 @@ fn push_opening_behind(
     push_offers(telling, path, who, out)
 }
 
-// Appends what is wanted to a text, below whose it is, where what came last was of somebody else; these wider rules are told of what came last.
+// Appends a wanted request to a text, after the heading of its asker, where the last rule was another asker's; `told` has the wider rules that are
+// printed for the last asker.
 fn push_wanted(
     telling: &RuleTelling<'_, '_>,
     last: Option<&[u8]>,
@@ -124,7 +125,7 @@ fn push_wanted(
     push_found(telling, &path, wanted, told, out)
 }
 
-// Appends all of what is wanted to a text, in its order.
+// Appends all wanted requests to a text, in their order.
 fn push_all_wanted(telling: &RuleTelling<'_, '_>, out: &mut Vec<u8>) -> Result<(), AllocError>
     ensures { OnOk result (out.new.items ≡ out.old.items ++ wanted_texts (seen_telling telling.now) None [] (seen_telling telling.now).wanted) }
 {
@@ -139,7 +140,7 @@ fn push_all_wanted(telling: &RuleTelling<'_, '_>, out: &mut Vec<u8>) -> Result<(
     Ok(())
 }
 
-// The requests that are wanted.
+// The requests that rules are wanted for.
 fn requests_of<'t>(alloc: Global, wanted: &[Wanted<'t>]) -> Result<Vec<Request<'t>>, AllocError>
     ensures { IfOk result (λ requests. map request_of requests.items ≡ map (λ one. one.request) (map seen_wanted wanted.now)) }
 {
@@ -152,7 +153,7 @@ fn requests_of<'t>(alloc: Global, wanted: &[Wanted<'t>]) -> Result<Vec<Request<'
     Ok(requests)
 }
 
-// The abstractions of a folder that let some of what is wanted.
+// The abstractions of a folder that allow some of the wanted requests.
 fn abstractions_for(
     alloc: Global,
     folder: &PolicyFolder<'_>,
@@ -165,7 +166,7 @@ fn abstractions_for(
     letting_abstractions(alloc, folder.language, &folder.files, &requests)
 }
 
-// Appends all of what is wanted of the profiles of a loaded folder to a text, in its order, with the abstractions that let some of it.
+// Appends all wanted requests of the profiles of a loaded folder to a text, in their order, with the abstractions that allow some of them.
 fn push_told(
     teller: Teller,
     globs: bool,
@@ -193,7 +194,7 @@ fn push_told(
     push_all_wanted(&telling, out)
 }
 
-// Appends requests to a text of which a rule denies something.
+// Appends requests of which a rule denies something to a text.
 fn push_denied(
     teller: Teller,
     tallies: Vec<&Tally<'_>>,
@@ -213,14 +214,15 @@ fn push_denied(
     Ok(())
 }
 
-/// Appends the rules to a text with which the requests of logs are allowed by the policy of a loaded folder that lack something, and says how many of them
-/// nobody asks who is loaded. The rules come below the file and the full name of who asks, in the order of these names, of each those first that are
-/// wanted most often: one for each path, with those of the letters asked for that no rule allows, for its owner alone where all its requests are the
-/// owner's; and one for each capability, and for each type of sockets. Ahead of them stand the abstractions of the folder that let some of what they are
-/// for (`aatry_abstractions::letting_abstractions`). In its place stands a comment, where a rule is in the way of it, or it can't be written. Behind all of
-/// them stands a comment for each request of which a rule denies something. As records these are of the kinds `abstraction`, `missing` and
-/// `no_rule`. Where wider rules are asked for, one stands in a comment behind each rule on a path of which something is widened
-/// (`aatry_log_globs::wider`), unless the same one stands behind another rule of the same name ahead of it; as records each is in that of its rule.
+/// Appends the rules to a text that allow the requests of logs which lack something by the policy of a loaded folder, and returns how many of the
+/// requests have an asker that isn't loaded. The rules come below the file and the full name of the asker, in the order of these names, for each
+/// asker the most frequently wanted first: one for each path, with those of the needed letters that no rule allows, for its owner alone where all
+/// its requests are the owner's; and one for each capability, and for each type of sockets. Before them come the abstractions of the folder that
+/// allow some of what they are for (`aatry_abstractions::letting_abstractions`). A comment is in place of a rule where another rule is in its way,
+/// or it can't be written. All of them are followed by a comment for each request of which a rule denies something. As records these are of the
+/// kinds `abstraction`, `missing` and `no_rule`. Where wider rules are asked for, one follows in a comment after each rule on a path of which
+/// something is widened (`aatry_log_globs::wider`), unless an earlier rule of the same name is followed by the same one; as records each is in that
+/// of its rule.
 ///
 /// # Errors
 ///

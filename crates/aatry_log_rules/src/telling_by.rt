@@ -1,4 +1,4 @@
-//! What the telling of rules goes by.
+//! What the printing of rules needs.
 
 use crate::wanted::Wanted;
 use aa_decide::IndexedSlots;
@@ -6,10 +6,10 @@ use aatry_abstractions::LettingAbstraction;
 use aatry_policy::Origin;
 use aatry_report::Teller;
 
-/// What the telling of rules goes by.
+/// What the printing of rules needs.
 #[derive(Clone, Copy)]
 pub struct RuleTelling<'l, 't> {
-    /// In which form it is told.
+    /// The form in which they are printed.
     pub teller: Teller,
     /// Whether wider rules are asked for.
     pub globs: bool,
@@ -19,8 +19,8 @@ pub struct RuleTelling<'l, 't> {
     pub origins: &'l [Origin],
     /// The policy set.
     pub slots: &'l IndexedSlots<'l>,
-    /// All that is wanted, in the order in which it is told.
+    /// All wanted requests, in the order in which they are printed.
     pub wanted: &'l [Wanted<'t>],
-    /// The abstractions that let some of it, by its places.
+    /// The abstractions that allow some of them, by their indexes.
     pub abstractions: &'l [LettingAbstraction],
 }

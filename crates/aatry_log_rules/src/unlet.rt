@@ -1,4 +1,4 @@
-//! Requests for which there is no rule to add, as they are told.
+//! Requests for which there is no rule to add, as they are printed.
 
 ghost use Rattle.std.specs.Prelude.{◌≡◌, ◌++◌, IfOk, OnOk, codes};
 ghost use Rattle.aa_set_commands.specs.Question.{seen_question};
@@ -17,7 +17,7 @@ use aatry_report::{Form, Record, Teller};
 use aatry_requests::push_question;
 use std::alloc::{AllocError, Global};
 
-// The words that say why there is none.
+// The words that say why there is no rule.
 fn reason_words(reason: NoRule) -> &'static str
     ensures { result.now ≡ reason_words reason }
 {
@@ -28,7 +28,7 @@ fn reason_words(reason: NoRule) -> &'static str
     }
 }
 
-// What is asked of a file: with `x` alone whether its program may be started.
+// The question for a file: with `x` alone whether its program may be started.
 fn file_question<'t>(who: &'t [u8], needs: Perms, owned: bool, path: &'t [u8]) -> Question<'t>
     ensures { seen_question result ≡ file_question who.now needs.0 owned path.now }
 {
@@ -43,7 +43,7 @@ fn file_question<'t>(who: &'t [u8], needs: Perms, owned: bool, path: &'t [u8]) -
     }
 }
 
-/// The question that asks what is wanted.
+/// The question of a wanted request.
 pub fn question_of<'t>(wanted: &Wanted<'t>) -> Question<'t>
     ensures { seen_question result ≡ question_of (seen_wanted wanted.now) }
 {
@@ -100,8 +100,8 @@ fn unlet_record(
     Ok(made)
 }
 
-/// Appends a question to a text for which there is no rule to add, why, and how often it was asked: a comment, or a record of the kind `no_rule`, with the
-/// texts `question` and `reason` and the number `times`.
+/// Appends a question for which there is no rule to add to a text, with the reason, and how often it was asked: a comment, or a record of the kind
+/// `no_rule`, with the texts `question` and `reason` and the number `times`.
 ///
 /// # Errors
 ///

@@ -1,4 +1,4 @@
-//! What rules are wanted for: the requests of each who asks, those for one path joined, with how often they came.
+//! What rules are wanted for: the requests of each asker, those for one path joined, with how often they occurred.
 
 ghost use Rattle.std.specs.Prelude.{◌≡◌, [], IfOk, OnErr, OnOk, map};
 ghost use Rattle.aa_set_commands.specs.Question.{seen_question};
@@ -18,15 +18,15 @@ use std::marker::Model;
 /// What one rule is wanted for.
 #[derive(Clone, Copy)]
 pub struct Wanted<'t> {
-    /// Who asks, by a full name.
+    /// The asker, by a full name.
     pub who: &'t [u8],
-    /// What is asked for: of one path the requests for it, joined.
+    /// The request: for one path the requests for it, joined.
     pub request: Request<'t>,
-    /// How often these came, as far as the number goes.
+    /// How often these occurred, up to the greatest number.
     pub times: u64,
 }
 
-/// What rules are wanted for, in the order in which it first came, each once.
+/// The wanted requests, in the order in which they first occurred, each once.
 #[derive(Drop)]
 pub struct WantedRules<'t> {
     by_text: IndexMap<Vec<u8>, Wanted<'t>>,
@@ -44,7 +44,7 @@ impl<'t> Model for WantedRules<'t> {
     ghost invariant = { λ w. AreUnderTexts w.by_text.entries };
 }
 
-// What is asked about, and by whom: of a path for no letter.
+// What is asked about, and by whom: a path with no letter.
 fn subject<'t>(wanted: &Wanted<'t>) -> Question<'t>
     ensures { seen_question result ≡ subject (seen_wanted wanted.now) }
 {
@@ -61,7 +61,7 @@ fn subject<'t>(wanted: &Wanted<'t>) -> Question<'t>
     }
 }
 
-// What is wanted, together with what is wanted already about the same.
+// A wanted request, joined with what is wanted already about the same.
 fn both<'t>(asked: Wanted<'t>, wanted: &Wanted<'_>) -> Wanted<'t>
     ensures { seen_wanted result ≡ both (seen_wanted asked.entry) (seen_wanted wanted.now) }
 {
@@ -72,7 +72,7 @@ fn both<'t>(asked: Wanted<'t>, wanted: &Wanted<'_>) -> Wanted<'t>
     }
 }
 
-// The same with what stands under a text, if something does.
+// A wanted request, joined with the one that has the same text, if there is one.
 fn wanted_under<'t>(
     by_text: &IndexMap<Vec<u8>, Wanted<'t>>,
     text: &[u8],
@@ -87,7 +87,7 @@ fn wanted_under<'t>(
 }
 
 impl<'t> WantedRules<'t> {
-    /// None. It takes no memory.
+    /// No wanted requests. It takes no memory.
     pub fn new(alloc: Global) -> WantedRules<'t>
         ensures { result ≡ [] }
     {
@@ -96,7 +96,7 @@ impl<'t> WantedRules<'t> {
         }
     }
 
-    /// Adds what a rule is wanted for: to what is wanted already of who asks about the same path, capability or sockets, or else behind all.
+    /// Adds a wanted request: joined with what is wanted already for the same asker about the same path, capability or sockets, or else after all.
     ///
     /// # Errors
     ///
@@ -112,7 +112,7 @@ impl<'t> WantedRules<'t> {
         Ok(())
     }
 
-    // All, in their order.
+    // All wanted requests, in their order.
     fn all(self, alloc: Global) -> Result<Vec<Wanted<'t>>, AllocError>
         ensures { IfOk result (λ all. map seen_wanted all.items ≡ self.entry) }
     {
@@ -124,7 +124,7 @@ impl<'t> WantedRules<'t> {
         Ok(all)
     }
 
-    /// All, by the names of who asks, in the order of their bytes.
+    /// All wanted requests, by the names of the askers, in the order of their bytes.
     ///
     /// # Errors
     ///

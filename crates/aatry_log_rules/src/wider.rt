@@ -1,4 +1,4 @@
-//! Wider rules than those that are told, as they are offered beside them.
+//! Wider rules than the printed ones, as they are offered beside them.
 
 ghost use Rattle.std.specs.Prelude.{◌≡◌, ◌++◌, [], IfOk, OnErr, OnOk};
 ghost use Rattle.std.specs.Option.{option_copied, option_map};
@@ -71,7 +71,7 @@ fn push_line(text: &[u8], out: &mut Vec<u8>) -> Result<(), AllocError>
     Ok(())
 }
 
-// Appends a wider rule to a text unless it is told; as records nothing is appended.
+// Appends a wider rule to a text unless it is printed already; records have none.
 fn push_once(form: Form, told: bool, text: &[u8], out: &mut Vec<u8>) -> Result<(), AllocError>
     ensures { OnOk result (out.new.items ≡ out.old.items ++ wider_once form told text.now) }
 {
@@ -81,7 +81,7 @@ fn push_once(form: Form, told: bool, text: &[u8], out: &mut Vec<u8>) -> Result<(
     }
 }
 
-/// The texts of the wider rules that are told of who asks, each once.
+/// The texts of the wider rules that are printed for an asker, each once.
 #[derive(Drop)]
 pub struct WiderTold {
     texts: IndexSet<Vec<u8>>,
@@ -97,7 +97,7 @@ impl Model for WiderTold {
 }
 
 impl WiderTold {
-    /// None. It takes no memory.
+    /// No wider rules. It takes no memory.
     pub fn new(alloc: Global) -> WiderTold
         ensures { result ≡ [] }
     {
@@ -106,7 +106,7 @@ impl WiderTold {
         }
     }
 
-    /// Forgets them where what came last was of somebody else than who asks now.
+    /// Forgets them where the last rule was another asker's.
     pub fn pass_to(&mut self, last: Option<&[u8]>, who: &[u8])
         ensures { self.new ≡ told_of (option_copied last.entry) who.now self.old }
     {
@@ -115,14 +115,14 @@ impl WiderTold {
         }
     }
 
-    // Whether this one is told.
+    // Whether this text is printed already.
     fn has(&self, text: &[u8]) -> bool
         ensures { result ≡ has_text text.now self.now }
     {
         self.texts.contains(text)
     }
 
-    // Notes that this one is told.
+    // Notes that this text is printed.
     fn note(&mut self, text: Vec<u8>) -> Result<(), AllocError>
         ensures { OnOk result (self.new ≡ with_told text.items self.old) }
     {
@@ -130,7 +130,7 @@ impl WiderTold {
         Ok(())
     }
 
-    // Appends a wider rule to a text, where it isn't told yet, and notes it.
+    // Appends a wider rule to a text, where it isn't printed yet, and notes it.
     fn push_one(&mut self, form: Form, text: Vec<u8>, out: &mut Vec<u8>) -> Result<(), AllocError>
         ensures told { OnOk result (self.new ≡ with_told text.items self.old) }
         ensures text { OnOk result (out.new.items ≡ out.old.items ++ wider_once form (has_text text.items self.old) text.items) }
@@ -139,7 +139,7 @@ impl WiderTold {
         self.note(text)
     }
 
-    /// Appends a wider rule to a text, if there is one and it isn't told yet, and notes it: a comment on a line of its own. As records nothing is appended.
+    /// Appends a wider rule to a text, if there is one and it isn't printed yet, and notes it: a comment on a line of its own. Records have none.
     ///
     /// # Errors
     ///

@@ -1,11 +1,11 @@
--- Lines that stand apart from the questions of a log, by why they ask none: how many there are, and the first of them.
+-- Lines of a log that make no question, by the reason: how many there are, and the first of them.
 use Rattle.std.specs.Prelude.{ℕ, Bool, true, false, nat_lt, if◌then◌else◌, List, [], ◌∷◌, ◌++◌, Option, length, map, option_map, string_bytes, take}
 use Rattle.aatry_log_lines.specs.Lines.{Asks, Disconnected, Interpreted, Learning, NoRequest, OtherRequest, Told, Unreadable}
 use Rattle.aatry_logs.specs.declared.apart.KeptLine.{KeptLine as CodeLine}
 use Rattle.aatry_logs.specs.declared.apart.LinesApart.{LinesApart as CodeLines}
 use Rattle.aatry_requests.specs.Tallies.{one_more}
 
--- The path of its log, where that is no standard input, the line's number in it, from 1, and its first bytes.
+-- The path of its log, where that isn't standard input, the line's number in it, from 1, and its first bytes.
 pub record KeptLine : Type 0 where
   pub file : Option (List ℕ)
   pub line : ℕ
@@ -16,7 +16,7 @@ pub record LinesApart : Type 0 where
   pub count : ℕ
   pub first : List KeptLine
 
--- those of the code
+-- the lines of the code
 abbrev pub seen_kept : CodeLine → KeptLine
 seen_kept line = record { file = option_map string_bytes line.file; line = line.line; text = line.text.items }
 
@@ -26,7 +26,7 @@ seen_lines lines = map seen_kept lines
 abbrev pub seen_apart : CodeLines → LinesApart
 seen_apart lines = record { count = lines.count; first = seen_lines lines.first.items }
 
--- none so far
+-- no lines so far
 abbrev pub none_apart : LinesApart
 none_apart = record { count = 0; first = [] }
 
@@ -45,7 +45,7 @@ kept_line file number line = record { file = file; line = number; text = take lo
 abbrev pub kept_with : List KeptLine → KeptLine → List KeptLine
 kept_with lines line = if nat_lt (length lines) most_kept then lines ++ line ∷ [] else lines
 
--- one more, if it is one of these
+-- one more line, if it is one of these
 abbrev pub one_apart : LinesApart → KeptLine → LinesApart
 one_apart lines line = record { count = one_more lines.count; first = kept_with lines.first line }
 
@@ -62,7 +62,7 @@ is_unreadable Disconnected = false
 is_unreadable Learning = false
 is_unreadable NoRequest = false
 
--- it can't since its values are interpreted
+-- a line can't be read since its values are interpreted
 abbrev pub is_interpreted : Told → Bool
 is_interpreted Interpreted = true
 is_interpreted (Asks question) = false
@@ -72,7 +72,7 @@ is_interpreted Learning = false
 is_interpreted NoRequest = false
 is_interpreted Unreadable = false
 
--- it tells of a file of which the kernel knew no whole path
+-- a line has a request for a file of which the kernel knew no whole path
 abbrev pub is_disconnected : Told → Bool
 is_disconnected Disconnected = true
 is_disconnected (Asks question) = false
@@ -82,7 +82,7 @@ is_disconnected NoRequest = false
 is_disconnected Unreadable = false
 is_disconnected Interpreted = false
 
--- it tells of a request of a learning profile
+-- a line has a request of a learning profile
 abbrev pub is_learning : Told → Bool
 is_learning Learning = true
 is_learning (Asks question) = false

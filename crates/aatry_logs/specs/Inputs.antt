@@ -1,11 +1,12 @@
--- An input, gathered as a log, which comes line by line.
+-- An input, gathered as a log, line by line.
 use Rattle.std.specs.Prelude.{◌≡◌, ℕ, false, List, ◌++◌, Option, None, Some, ⊤}
 use Rattle.aa_set_commands.specs.Lines.{lines}
 use Rattle.aatry_log_lines.specs.Selections.{Selection}
 use Rattle.aatry_logs.specs.Compressed.{begin_compressed}
 use Rattle.aatry_logs.specs.LogRequests.{LogRequests, begun, with_lines}
 
--- These lines of an input were given, of which nothing had been read, and the others are those of what waits and of what is left, where that is known.
+-- These lines of an input were returned, of which nothing had been read, and the others are those of what waits and of what is still to be read,
+-- where that is known.
 abbrev pub AreGiven : (before : Option (List ℕ)) (given : List (List ℕ)) (now : Option (List ℕ)) (waits : List ℕ) → Type 0
 AreGiven None given now waits = ⊤
 AreGiven (Some bytes) given None waits = ⊥
@@ -21,6 +22,6 @@ abbrev pub IsAllTaken : Selection → (file left : Option (List ℕ)) → (befor
 IsAllTaken selection file left before after =
     (given : List (List ℕ)) × AreAllLines left given × (begin_compressed given ≡ false) × (after ≡ with_lines selection file before given)
 
--- The same of a log that begins: that at a path, or standard input.
+-- What was gathered so far has become this by all lines of a log that begins: that at a path, or standard input, which gzip didn't write.
 abbrev pub IsGatheredFrom : Selection → (file left : Option (List ℕ)) → (before after : LogRequests) → Type 0
 IsGatheredFrom selection file left before after = IsAllTaken selection file left (begun before) after

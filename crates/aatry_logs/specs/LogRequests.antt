@@ -10,9 +10,9 @@ use Rattle.aatry_requests.specs.Gathering.{Gathered, seen_requests, with_told_at
 use Rattle.aatry_requests.specs.Gathering as requests
 use Rattle.aatry_requests.specs.Tallies.{one_more}
 
--- The requests of those lines that are asked for; of these, the lines that can't be read, and how many of them can't since they are interpreted; those of
--- which the kernel knew no whole path, and those of learning profiles; how many lines that tell something are passed over; and the number of the last line,
--- in its log.
+-- The requests of the selected lines; the selected lines that can't be read, and how many of them can't since they are interpreted; those of which
+-- the kernel knew no whole path, and those of learning profiles; how many lines that hold something are passed over; and the number of the last
+-- line, in its log.
 pub record LogRequests : Type 0 where
   pub requests : Gathered
   pub unreadable : LinesApart
@@ -22,7 +22,7 @@ pub record LogRequests : Type 0 where
   pub passed_over : ℕ
   pub line : ℕ
 
--- those of the code
+-- what is gathered, of the code
 abbrev pub seen_logs : CodeRequests → LogRequests
 seen_logs logs = record {
   requests = seen_requests logs.requests;
@@ -54,7 +54,7 @@ begun so_far = record so_far { line = 0 }
 abbrev pub one_more_if : Bool → ℕ → ℕ
 one_more_if is_one count = if is_one then one_more count else count
 
--- the same with a line, of which this is kept, among those that stand apart, by what it tells
+-- what is gathered, with a line, of which this is kept, among those that make no question, by what it holds
 abbrev pub with_apart : LogRequests → KeptLine → Told → LogRequests
 with_apart so_far kept told = record so_far {
   unreadable = apart_with (is_unreadable told) so_far.unreadable kept;
@@ -63,7 +63,7 @@ with_apart so_far kept told = record so_far {
   learning = apart_with (is_learning told) so_far.learning kept;
 }
 
--- one more line of a log, of which this is kept, and which tells this
+-- what is gathered, with one more line of a log, of which this is kept, and which holds this
 abbrev pub with_kept : LogRequests → KeptLine → Entry → LogRequests
 with_kept so_far kept entry = record (with_apart so_far kept (asked_for entry)) {
   requests = with_told_at so_far.requests (asked_for entry) entry.time;
@@ -71,7 +71,7 @@ with_kept so_far kept entry = record (with_apart so_far kept (asked_for entry)) 
   line = one_more so_far.line;
 }
 
--- the same by the line
+-- what is gathered, with one more line of a log, which holds this
 abbrev pub with_entry : Option (List ℕ) → List ℕ → LogRequests → Entry → LogRequests
 with_entry file line so_far entry = with_kept so_far (kept_line file (one_more so_far.line) line) entry
 

@@ -12,7 +12,7 @@ abbrev pub fault_by : String Global → ErrorKind → Fault
 fault_by path kind.OutOfMemory = NoMemory
 fault_by path _ = Unreadable path
 
--- A fault keeps the file at a path from being opened: the path, which is told, is one where none can be; or memory ran out.
+-- A fault keeps the file at a path from being opened: the path, which the fault has, is one where none can be; or memory ran out.
 abbrev pub IsUnopened : Known → List ℕ → Fault → Type 0
 IsUnopened known path (Unreadable name) = (string_bytes name ≡ path) × known.IsUnreadable path
 IsUnopened known path NoMemory = ⊤

@@ -10,7 +10,7 @@ use Rattle.aa_set_commands.specs.Lines.{is_line_feed}
 abbrev pub most_reads : ℕ
 most_reads = 2147483648
 
--- how many lines of an input are given at most
+-- how many lines of an input are returned at most
 abbrev pub most_lines : ℕ
 most_lines = 1073741824
 
@@ -21,19 +21,19 @@ pub record Comes (before now : Option (List ℕ)) (waited waits text : List ℕ)
   pub whole : waited ++ read ≡ text ++ waits
   pub unended : list_any is_line_feed text ≡ false
 
--- as much of a line as matters: one byte more than a line may have tells that it is too long
+-- as much of a line as matters: one byte more than a line may have shows that it is too long
 abbrev pub kept : List ℕ → List ℕ
 kept line = take (longest_line + 1) line
 
--- A line was given: of what had waited and what was read since it is what stands before the first line feed, and what stands behind that waits; or no line
--- feed came to the input's end, and it is all of it, of which nothing waits. At the end there is a line where it isn't empty.
+-- A line was returned: of what had waited and what was read since it is what is before the first line feed, and what follows that waits; or there
+-- was no line feed to the input's end, and it is all of it, of which nothing waits. At the end there is a line where it isn't empty.
 pub record GivesLine (before now : Option (List ℕ)) (waited waits given : List ℕ) (is_line : Bool) : Type 0 where
   pub line : List ℕ
   pub gives : given ≡ kept line
   pub comes : (Comes before now waited (line_feed ∷ waits) line × (is_line ≡ true))
       ⊎ (Comes before now waited [] line × (waits ≡ []) × IsAtEnd now × (is_line ≡ not (length given == 0)))
 
--- No line was given: what had waited and what was read since is a beginning of a line, which is held as far as it matters, and what waits now.
+-- No line was returned: what had waited and what was read since is a beginning of a line, which is held as far as it matters, and what waits now.
 pub record BreaksOff (before now : Option (List ℕ)) (waited waits held : List ℕ) : Type 0 where
   pub line : List ℕ
   pub holds : held ≡ kept line

@@ -1,2 +1,2 @@
--- What is about the code: how far the reading of logs has come.
+-- Definitions about the code: how far the reading of logs has come.
 pub mod Reading

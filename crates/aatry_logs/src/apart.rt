@@ -1,4 +1,4 @@
-//! Lines that stand apart from the questions of a log, by why they ask none.
+//! Lines of a log that make no question, by the reason.
 
 ghost use Rattle.std.specs.Prelude.{◌≡◌, IfOk, OnOk, option_map, string_bytes, take};
 ghost use Rattle.aatry_log_lines.specs.Lines.{seen_line};
@@ -27,14 +27,14 @@ pub struct KeptLine {
 /// Lines of one kind.
 #[derive(Drop)]
 pub struct LinesApart {
-    /// How many there are, as far as the number goes.
+    /// How many there are, up to the greatest number.
     pub count: u64,
     /// The first of them, ten at most.
     pub first: Vec<KeptLine>,
 }
 
 impl LinesApart {
-    /// None so far. It takes no memory.
+    /// No lines so far. It takes no memory.
     pub fn new(alloc: Global) -> LinesApart
         ensures { seen_apart result ≡ none_apart }
     {
@@ -45,7 +45,7 @@ impl LinesApart {
     }
 }
 
-// The first bytes of a line, so many at most.
+// The first `size` bytes of a line; all, where it has no more.
 fn front(line: &[u8], size: usize) -> &[u8]
     ensures { result.now ≡ take size line.now }
 {
@@ -83,7 +83,7 @@ fn kept_line(
     })
 }
 
-// One more line, where fewer than ten were kept.
+// Keeps one more line, where fewer than ten were kept.
 fn keep(
     alloc: Global,
     file: Option<&str>,
@@ -100,7 +100,7 @@ fn keep(
     Ok(())
 }
 
-/// Counts a line of a log, with its number, among others, if it is one of these, and keeps it where fewer than ten were kept.
+/// Counts a line of a log, with its number, among `lines`, if it is one of these, and keeps it where fewer than ten were kept.
 ///
 /// # Errors
 ///
@@ -135,7 +135,7 @@ pub fn is_unreadable(told: &LogLine<'_>) -> bool
     }
 }
 
-/// Whether it can't since its values are interpreted. It takes no memory.
+/// Whether a line can't be read since its values are interpreted. It takes no memory.
 pub fn is_interpreted(told: &LogLine<'_>) -> bool
     ensures { result ≡ is_interpreted (seen_line told.now) }
 {
@@ -146,7 +146,7 @@ pub fn is_interpreted(told: &LogLine<'_>) -> bool
     }
 }
 
-/// Whether a line tells of a file of which the kernel knew no whole path. It takes no memory.
+/// Whether a line has a request for a file of which the kernel knew no whole path. It takes no memory.
 pub fn is_disconnected(told: &LogLine<'_>) -> bool
     ensures { result ≡ is_disconnected (seen_line told.now) }
 {
@@ -157,7 +157,7 @@ pub fn is_disconnected(told: &LogLine<'_>) -> bool
     }
 }
 
-/// Whether a line tells of a request of a learning profile. It takes no memory.
+/// Whether a line has a request of a learning profile. It takes no memory.
 pub fn is_learning(told: &LogLine<'_>) -> bool
     ensures { result ≡ is_learning (seen_line told.now) }
 {

@@ -1,4 +1,4 @@
-//! What lines of a log tell.
+//! What lines of a log hold.
 
 ghost use Rattle.std.specs.Prelude.{◌≡◌, IfOk, if◌then◌else◌};
 ghost use Rattle.aatry_log_lines.specs.Entries.{seen_entry};
@@ -10,7 +10,7 @@ use aa_set_commands::LONGEST_LINE;
 use aatry_log_lines::{LogEntry, LogLine, Selection, entry_by};
 use std::alloc::{AllocError, Global};
 
-/// What a line of a log tells, by what is asked for. It can't be read where it has more than 65,536 bytes.
+/// What a line of a log holds, by the selection. It can't be read where it has more than 65,536 bytes.
 ///
 /// # Errors
 ///
@@ -28,7 +28,7 @@ pub fn entry_in_log<'a>(
     entry_by(alloc, selection, line)
 }
 
-// Whether a line tells something of AppArmor's requests.
+// Whether a line holds something on AppArmor's requests.
 fn tells_something(told: &LogLine<'_>) -> bool
     ensures { result ≡ tells_something (seen_line told.now) }
 {
@@ -39,14 +39,14 @@ fn tells_something(told: &LogLine<'_>) -> bool
     }
 }
 
-/// Whether a line that tells something is passed over. It takes no memory.
+/// Whether a line is passed over that holds something on AppArmor's requests. It takes no memory.
 pub fn passes_over(entry: &LogEntry<'_>) -> bool
     ensures { result ≡ passes_over (seen_entry entry.now) }
 {
     entry.is_passed_over && tells_something(&entry.told)
 }
 
-/// What a line tells that is asked for. It takes no memory.
+/// What a line holds that isn't passed over; of a line that is, no request. It takes no memory.
 pub fn asked_for<'a>(told: LogLine<'a>, is_passed_over: bool) -> LogLine<'a>
     ensures { seen_line result ≡ (if is_passed_over then NoRequest else seen_line told.entry) }
 {

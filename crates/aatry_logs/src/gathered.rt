@@ -1,4 +1,4 @@
-//! Logs that are named, gathered one behind the other.
+//! Named logs, gathered one after the other.
 
 ghost use Rattle.std.specs.Prelude.{◌≡◌, ◌≤◌, ◌⊎◌, ◌^◌, None, Some, false, true, IfErr, IfOk, OnOk, map, string_bytes};
 ghost use Rattle.aatry_folder.specs.declared.fault.Fault.TheVariants as fault;
@@ -87,8 +87,8 @@ fn take_log<D: FileSystem, S: Source>(
     take_file(alloc, selection, disk, path, logs)
 }
 
-/// What is gathered of the logs at these paths, of one behind the other, by the lines that are asked for. `-` is standard input, which is read once: where it
-/// is named again nothing is left of it. Lines are let go as they are taken.
+/// What is gathered of the logs at these paths, one after the other, by their selected lines. `-` is standard input, which is read once: where it is
+/// named again nothing is left of it. Lines are dropped as they are taken.
 ///
 /// # Errors
 ///
@@ -126,7 +126,7 @@ pub fn gather_logs<'a, D: FileSystem, S: Source>(
     Ok(logs)
 }
 
-/// The paths that are meant: that of standard input where none is named.
+/// The paths that are meant: that of standard input where none is given.
 ///
 /// # Errors
 ///

@@ -1,4 +1,4 @@
-//! An input, gathered as a log, which comes line by line.
+//! An input, gathered as a log, line by line.
 
 ghost use Rattle.std.specs.Prelude.{◌≡◌, ◌≤◌, ◌⊎◌, ◌^◌, [], true, false, IfErr, OnOk, option_map};
 ghost use Rattle.aatry_folder.specs.declared.fault.Fault.TheVariants as fault;
@@ -16,7 +16,7 @@ use aatry_log_lines::Selection;
 use std::alloc::Global;
 
 impl<'a> LogRequests<'a> {
-    // The next line of a log, unless it is the first of one that gzip wrote.
+    // Takes the next line of a log, unless it is the first of one that gzip wrote.
     fn take_next(
         &mut self,
         alloc: Global,
@@ -38,7 +38,7 @@ impl<'a> LogRequests<'a> {
         Ok(())
     }
 
-    // The lines of an input of which nothing was read, as those of a log that has begun.
+    // Takes the lines of an input of which nothing was read, as those of a log that has begun.
     fn take_lines<S: Source>(
         &mut self,
         alloc: Global,
@@ -63,13 +63,13 @@ impl<'a> LogRequests<'a> {
         Err(Fault::Read)
     }
 
-    /// Takes all lines that an input has left, as those of the log at a path or of standard input, behind those that were taken before. Each line is let go
-    /// once it is taken: memory is kept for each question once, and for the first lines that can't be read.
+    /// Takes all lines that an input still has, as those of the log at a path or of standard input, after those that were taken before. Each line is
+    /// dropped once it is taken: memory is kept for each question once, and for the first lines that can't be read.
     ///
     /// # Errors
     ///
-    /// - `Read` where a read failed, a line took more than 2,147,483,648 reads, or 1,073,741,824 lines didn't come to the end.
-    /// - `Compressed` where the log's first line begins as a file of gzip's does. No line is taken then.
+    /// - `Read` where a read failed, a line took more than 2,147,483,648 reads, or 1,073,741,824 lines didn't reach the end.
+    /// - `Compressed` where the log's first line begins like a file of gzip. No line is taken then.
     /// - `NoMemory` where memory ran out.
     ///
     /// Some lines may have been taken then.

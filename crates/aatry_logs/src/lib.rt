@@ -1,5 +1,5 @@
-//! Logs, gathered: the requests of their lines that are asked for, each with how often it came and when, and the lines that can't be read; from a stream, or
-//! from the file at a path, line by line.
+//! Logs, gathered: the requests of their selected lines, each with how often and when it occurred, and the lines that can't be read; from a stream,
+//! or from the file at a path, line by line.
 #![tactic(auto)]
 
 mod apart;

@@ -1,4 +1,4 @@
-//! An input, given line by line.
+//! An input, line by line.
 
 ghost use Rattle.std.specs.Prelude.{◌≡◌, ◌⊎◌, ◌+◌, ◌-◌, ◌^◌, ◌<◌, ◌≤◌, ◌++◌, ◌∷◌, [], ℕ, List, true, false, IfOk, OnErr, OnOk, drop, length};
 ghost use Rattle.std.specs.Io.KnownBytes.{Consumes, IsAtEnd, Keeps};
@@ -17,7 +17,7 @@ const PIECE: usize = 65_536;
 // How many reads a line takes at most.
 const MOST_READS: u32 = 2_147_483_648;
 
-/// What was read of an input and not given yet.
+/// What was read of an input and not returned yet.
 ///
 /// Contracts see these bytes.
 #[derive(Drop)]
@@ -39,7 +39,7 @@ impl Model for LineInput {
 }
 
 impl LineInput {
-    /// An input of which nothing was read, with the room for what a read gives.
+    /// An input of which nothing was read, with the buffer for a read.
     ///
     /// # Errors
     ///
@@ -54,13 +54,13 @@ impl LineInput {
         })
     }
 
-    /// Reads on to the end of the next line, puts that line in place of what `line` holds, and says whether there is one: at the input's end there is none.
-    /// It has no line feed. Of a line that is too long one byte more is given than a line may have.
+    /// Reads on to the end of the next line, puts that line in place of what `line` holds, and returns whether there is one: at the input's end
+    /// there is none. The line has no line feed. Of a line that is too long one byte more is kept than a line may have.
     ///
     /// # Errors
     ///
-    /// `Failed` where a read fails, or the line didn't end within 2,147,483,648 reads. `line` then holds the beginning of the line, as far as it was read,
-    /// which no further call gives again; what was read behind it waits.
+    /// `Failed` where a read fails, or the line didn't end within 2,147,483,648 reads. `line` then holds the beginning of the line, as far as it was
+    /// read, which no further call returns again; what was read after it waits.
     pub fn next<S: Source>(&mut self, reader: &mut S, line: &mut LineBuffer) -> Result<bool, Failed>
         requires { S.reads reader.old ≤ 2 ^ 63 }
         ensures given { IfOk result (GivesLine (S.left reader.old) (S.left reader.new) self.old self.new line.new) }
@@ -81,14 +81,14 @@ impl LineInput {
         Err(Failed)
     }
 
-    // What was read and not given yet.
+    // What was read and not returned yet.
     fn waiting(&self) -> &[u8]
         ensures { result.now ≡ self.now }
     {
         &self.piece[self.from..self.to]
     }
 
-    // Gives up the first bytes, as many as `count`.
+    // Drops the first `count` bytes.
     fn pass(&mut self, count: usize)
         requires { count ≤ length self.old }
         ensures { self.new ≡ drop count self.old }
@@ -96,7 +96,7 @@ impl LineInput {
         self.from += count;
     }
 
-    // Takes what stands before the first line feed that waits behind a line, or all that waits, and says whether there is a line feed.
+    // Takes what waits up to the first line feed, or all that waits, appends it to the line, and returns whether there was a line feed.
     fn take_line(&mut self, line: &mut LineBuffer) -> bool
         ensures ended { result ≡ true → (last : List ℕ) × (list_any is_line_feed last ≡ false)
             × (self.old ≡ last ++ line_feed ∷ self.new) × (line.new ≡ kept (line.old ++ last)) }
@@ -115,7 +115,7 @@ impl LineInput {
         true
     }
 
-    // Reads the next piece, where nothing waits, and says how many bytes that are.
+    // Reads the next piece, where nothing waits, and returns how many bytes that is.
     fn fill<S: Source>(&mut self, reader: &mut S) -> Result<usize, Failed>
         requires nothing_waits { self.old ≡ [] }
         requires countable { S.reads reader.old < 2 ^ 64 - 1 }

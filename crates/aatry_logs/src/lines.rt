@@ -9,15 +9,15 @@ use aa_set_commands::{LineBuffer, Source};
 use aatry_folder::Fault;
 use std::alloc::{AllocError, Global};
 
-/// How many lines of an input are given at most.
+/// How many lines of an input are returned at most.
 pub const MOST_LINES: u32 = 1_073_741_824;
 
-/// The lines of an input: what was read of it and not given yet, and the line that was given last.
+/// The lines of an input: what was read of it and not returned yet, and the line that was returned last.
 #[derive(Drop)]
 pub struct Lines {
-    /// What was read and not given yet.
+    /// What was read and not returned yet.
     pub input: LineInput,
-    /// The line that was given last, as far as it matters.
+    /// The line that was returned last, as far as it matters.
     pub line: LineBuffer,
 }
 
@@ -34,7 +34,7 @@ pub fn all_lines(alloc: Global) -> Result<Lines, AllocError>
     Ok(Lines { input, line })
 }
 
-/// Reads the next line, which `line` of the lines has then, and says whether there is one (`LineInput::next`).
+/// Reads the next line into `lines.line`, and returns whether there is one (`LineInput::next`).
 ///
 /// # Errors
 ///

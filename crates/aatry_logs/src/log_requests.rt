@@ -16,23 +16,23 @@ use std::alloc::{AllocError, Global};
 /// What is gathered of logs.
 #[derive(Drop)]
 pub struct LogRequests<'a> {
-    /// The requests of those lines that are asked for.
+    /// The requests of the selected lines.
     pub requests: Requests<'a>,
-    /// Of these lines those that can't be read.
+    /// The selected lines that can't be read.
     pub unreadable: LinesApart,
-    /// How many of them can't since their values are interpreted, as `ausearch -i` does.
+    /// How many of them can't be since their values are interpreted, as `ausearch -i` does it.
     pub interpreted: u64,
-    /// The lines that tell of a file of which the kernel knew no whole path.
+    /// The lines with a request for a file of which the kernel knew no whole path.
     pub disconnected: LinesApart,
-    /// Those that tell of a request of a learning profile.
+    /// The lines with a request of a learning profile.
     pub learning: LinesApart,
-    /// How many lines are passed over that tell something of AppArmor's requests.
+    /// How many lines are passed over that hold something on AppArmor's requests.
     pub passed_over: u64,
     // The number of the last line, in its log.
     line: u64,
 }
 
-// One more, if this is one.
+// A count with one more, if this is one.
 fn one_more_if(is_one: bool, count: u64) -> u64
     ensures { result ≡ one_more_if is_one count }
 {
@@ -44,7 +44,7 @@ fn one_more_if(is_one: bool, count: u64) -> u64
 }
 
 impl<'a> LogRequests<'a> {
-    /// None so far. It takes no memory.
+    /// Nothing so far. It takes no memory.
     pub fn new(alloc: Global) -> LogRequests<'a>
         ensures { seen_logs result ≡ nothing }
     {
@@ -59,14 +59,14 @@ impl<'a> LogRequests<'a> {
         }
     }
 
-    // A further log begins.
+    // Begins a further log.
     pub fn begin(&mut self)
         ensures { seen_logs self.new ≡ begun (seen_logs self.old) }
     {
         self.line = 0;
     }
 
-    // The last line of a log, if it stands apart from the questions, by what it tells.
+    // Notes the last line of a log, if it makes no question, by what it holds.
     fn note_apart(
         &mut self,
         alloc: Global,
@@ -105,7 +105,7 @@ impl<'a> LogRequests<'a> {
         )
     }
 
-    // One more line of a log, which tells this.
+    // Takes one more line of a log, with what it holds.
     fn take_entry(
         &mut self,
         alloc: Global,
@@ -128,7 +128,7 @@ impl<'a> LogRequests<'a> {
         self.requests.note(alloc, told, time)
     }
 
-    // One more line of a log, of which nothing is borrowed.
+    // Takes one more line of a log, of which nothing is borrowed.
     pub fn take_line(
         &mut self,
         alloc: Global,

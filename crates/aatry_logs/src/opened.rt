@@ -18,7 +18,7 @@ fn fault_by(path: String, kind: ErrorKind) -> Fault
     }
 }
 
-/// The file at a path, opened to be read from its beginning. The path begins in the current folder where it isn't whole.
+/// The file at a path, opened to be read from its beginning. A relative path starts in the current folder.
 ///
 /// # Errors
 ///

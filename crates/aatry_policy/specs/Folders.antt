@@ -17,8 +17,8 @@ use Rattle.aatry_policy.specs.Profiles.{FileProfiles, read_profiles}
 use Rattle.aatry_policy.specs.declared.origins.Origin.{Origin}
 use Rattle.aatry_report.specs.declared.form.Form.{Form}
 
--- a folder of policy: the language by which its files are read, all that lies below it, with why each file wasn't read, if it wasn't, its path, and the
--- files whose profiles are loaded, with how they are, in that order
+-- a folder of policy: the language by which its files are read, all that lies below it, with why each file wasn't read, if it wasn't, its path, and
+-- the files whose profiles are loaded, with how they are, in that order
 pub record Folder : Type 0 where
   pub language : Language
   pub files : List File
@@ -44,7 +44,7 @@ below folder = record { files = folder.files; base = folder.base }
 abbrev pub folder_at : Language → List ℕ → List File → List (Option UnreadFault) → List TopFile → Folder
 folder_at language base files unread top = record { language = language; files = files; unread = unread; base = base; top = top }
 
--- what its files make, each added in its turn
+-- the manager of its files, added one after the other
 abbrev pub loaded_in : Folder → Managed
 loaded_in folder = loaded folder.files (new_manager_in folder.language false) folder.top
 
@@ -64,15 +64,15 @@ read_in folder = read_profiles folder.language folder.files (file_names folder.t
 abbrev pub origins_in : Folder → List Origin
 origins_in folder = origins_of (read_in folder)
 
--- what is told of those that are left out, at length or not
+-- the report on those that are left out, verbose or not
 abbrev pub left_out_in : Form → Bool → Folder → List ℕ
 left_out_in form verbose folder =
     listed_lines form verbose folder.language folder.base folder.files folder.unread (file_names folder.top) (outcomes_in folder)
 
--- those themselves
+-- the files that are left out
 abbrev pub files_left_out : Folder → List LeftOut
 files_left_out folder = left_out_of (file_names folder.top) (outcomes_in folder)
 
--- what is noted of them
+-- the note on them
 abbrev pub left_out_note : Folder → List ℕ
 left_out_note folder = note_on (left_out_count (outcomes_in folder)) folder.language folder.base

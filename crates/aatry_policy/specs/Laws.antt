@@ -1,4 +1,4 @@
--- What the laws on parts speak of: those that have what who has their full name has.
+-- Definitions for the laws on parts: those that have what the profile, child or hat of their full name has.
 use Rattle.std.specs.Prelude.{◌≡◌, ℕ, List, Some}
 use Rattle.aa_decide.specs.Exec.{Asker}
 use Rattle.aa_decide_ready.specs.Entries.{Loaded}
@@ -15,8 +15,8 @@ HasOwnRules parts who =
     (part : Part) × (part_of parts (full_name_at who.entry.profile who.child) ≡ Some part)
     × (part.section.rules ≡ rules_at who.entry.profile who.child) × (part.section.audit ≡ audits who.entry.profile who.child)
 
--- A part is that of a profile, child or hat: it has its full name, the mode that it is in or that it is disabled, whether it is audited, and the same
--- attachments and rules.
+-- A part is that of a profile, child or hat: it has its full name, the mode that it is in or that it is disabled, whether it is audited, and the
+-- same attachments and rules.
 pub record IsPartOf (who : Asker) (part : Part) : Type 0 where
   pub name : part.name ≡ full_name_at who.entry.profile who.child
   pub mode : part.section.mode ≡ mode_in who.entry.state who.child
@@ -28,6 +28,6 @@ pub record IsPartOf (who : Asker) (part : Part) : Type 0 where
 abbrev pub IsPartIn : List Loaded → Part → Type 0
 IsPartIn entries part = (who : Asker) × IsListed entries who × IsPartOf who part
 
--- so is the first part of a full name, if there is one
+-- the first part of a full name is such a part, if there is one
 abbrev pub IsFirstIn : List Loaded → List Part → List ℕ → Type 0
 IsFirstIn entries parts name = (part : Part) → part_of parts name ≡ Some part → IsPartIn entries part × (part.name ≡ name)

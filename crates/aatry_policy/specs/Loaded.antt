@@ -18,7 +18,7 @@ loaded_so ByFlags profile = loaded false profile
 loaded_so ForceComplain profile = loaded true profile
 loaded_so Disable profile = disabled profile
 
--- the profiles of files, by how each came out: those that are taken, one file's behind the other's
+-- the profiles of files, by whether each was refused: those that are taken, one file's after the other's
 abbrev pub entries_of : Language → List File → List TopFile → List (Option Refusal) → List Loaded
 entries_of language files (file ∷ top) (outcome ∷ outcomes) =
     map (loaded_so file.loading) (profiles_in (file_if_taken language files file.name outcome)) ++ entries_of language files top outcomes

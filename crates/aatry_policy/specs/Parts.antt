@@ -30,7 +30,7 @@ profile_section flags state profile = record {
   rules = profile.rules;
 }
 
--- what a child or hat has that stands at a place of a profile in a state
+-- what the child or hat at an index of a profile in a state has
 abbrev pub child_section : List (List ℕ) → State → ℕ → Child → Section
 child_section flags state place child = record {
   mode = mode_in state (Some place);
@@ -50,7 +50,7 @@ profile_part origin entry = record {
   places = rule_places origin None;
 }
 
--- the child or hat at a place of it
+-- the child or hat at an index of a loaded profile
 abbrev pub child_part : Option Origin → Loaded → ℕ → Child → Part
 child_part origin entry place child = record {
   name = full_name_at entry.profile (Some place);
@@ -59,16 +59,16 @@ child_part origin entry place child = record {
   places = rule_places origin (Some place);
 }
 
--- its children and hats, where the first stands at this place
+-- its children and hats, where the first has this index
 abbrev pub child_parts : Option Origin → Loaded → ℕ → List Child → List Part
 child_parts origin entry place [] = []
 child_parts origin entry place (child ∷ children) = child_part origin entry place child ∷ child_parts origin entry (place + 1) children
 
--- a loaded profile, and behind it its children and hats
+-- a loaded profile, followed by its children and hats
 abbrev pub profile_parts : Option Origin → Loaded → List Part
 profile_parts origin entry = profile_part origin entry ∷ child_parts origin entry 0 entry.profile.children
 
--- the first of some origins, and those behind it
+-- the first of some origins, and those after it
 abbrev pub first_of : List Origin → Option Origin
 first_of [] = None
 first_of (origin ∷ origins) = Some origin
@@ -77,7 +77,7 @@ abbrev pub behind_first : List Origin → List Origin
 behind_first [] = []
 behind_first (origin ∷ origins) = origins
 
--- the parts of a policy set, each entry with its own of some origins
+-- the parts of a policy set, each entry with its own origin
 abbrev pub set_parts : List Loaded → List Origin → List Part
 set_parts [] origins = []
 set_parts (entry ∷ entries) origins = profile_parts (first_of origins) entry ++ set_parts entries (behind_first origins)

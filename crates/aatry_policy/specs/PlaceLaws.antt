@@ -1,4 +1,4 @@
--- What the laws on places speak of: where loaded profiles were read, and where their rules are written.
+-- Definitions for the laws on places: where loaded profiles were read, and where their rules are written.
 use Rattle.std.specs.Prelude.{◌≡◌, ℕ, List, [], ◌∷◌, Option, None, Some, Ok, slice_get}
 use Rattle.std.specs.List.{Contains}
 use Rattle.std.specs.Option.{option_map}
@@ -23,7 +23,7 @@ use Rattle.aatry_policy.specs.Origins.{origin_in}
 use Rattle.aatry_policy.specs.Parts.{Part}
 use Rattle.aatry_policy.specs.declared.origins.Origin.{Origin}
 
--- An origin is that of a profile: its file spells the profile by a language, and the origin has the places that the file has for it.
+-- An origin is that of a profile: its file has the profile by a language, and the origin has the places that the file has for it.
 pub record IsReadAt (language : Language) (files : List File) (profile : Profile) (origin : Origin) : Type 0 where
   pub profiles : List Profile
   pub places : List ProfilePlaces
@@ -36,7 +36,7 @@ pub record IsReadAt (language : Language) (files : List File) (profile : Profile
   pub kept : origin.places ≡ Some own
   pub named : origin.profile ≡ profile.name
 
--- there are as many origins as loaded profiles, and each is that of the profile that it stands for
+-- there are as many origins as loaded profiles, and each is that of its profile
 abbrev pub AreReadAt : Language → List File → List Loaded → List Origin → Type 0
 AreReadAt language files [] [] = Unit {0}
 AreReadAt language files (entry ∷ entries) (origin ∷ origins) = IsReadAt language files entry.profile origin × AreReadAt language files entries origins
@@ -46,7 +46,7 @@ AreReadAt language files _ _ = ⊥
 abbrev pub IsFoundAt : Language → List File → List Origin → List ℕ → Profile → Type 0
 IsFoundAt language files origins name profile = (origin : Origin) × (origin_in name origins ≡ Some origin) × IsReadAt language files profile origin
 
--- the rules of a profile's own block, or of the child or hat at a place of it
+-- the rules of a profile's own block, or of the child or hat at an index of it
 abbrev pub block_at : WrittenProfile → Option ℕ → Option (List WrittenRule)
 block_at profile None = Some (rules_in profile.members)
 block_at profile (Some place) = option_map (λ child. child.rules) (slice_get (children_in profile.members) place)
@@ -62,13 +62,13 @@ pub record HasBlock (language : Language) (files : List File) (name : List ℕ) 
   pub among : Contains written.profiles profile
   pub is : block_at profile child ≡ Some block
 
--- Rules are written in a file, in a profile's own block or in that of the child or hat at a place of it: each is made by a rule of that block with the
--- file's variables, and the place beside it is where that one is written. There are as many places as rules.
+-- Rules are written in a file, in a profile's own block or in that of the child or hat at an index of it: each is made by a rule of that block with
+-- the file's variables, and the corresponding place is where that one is written. There are as many places as rules.
 abbrev pub AreWrittenIn : Language → List File → List ℕ → Option ℕ → List Rule → List (Option Place) → Type 0
 AreWrittenIn language files name child rules places =
     (variables : List Variable) × (block : List WrittenRule)
     × HasBlock language files name child variables block × AreMadeAt language variables block rules places
 
--- so are the rules of a part, in the file that it is read from
+-- the rules of a part are written in the file that it is read from
 abbrev pub IsPartWritten : Language → List File → Part → Type 0
 IsPartWritten language files part = (child : Option ℕ) × AreWrittenIn language files part.file child part.section.rules part.places

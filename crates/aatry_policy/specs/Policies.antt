@@ -1,4 +1,4 @@
--- The policy set that files make, one behind the other, each loaded as it is to be: by the flags of its profiles, in complain mode, or disabled.
+-- The policy set that files make, one after the other, each loaded as it is to be: by the flags of its profiles, in complain mode, or disabled.
 use Rattle.std.specs.Prelude.{ℕ, List, [], ◌∷◌, map, Option, None, Some, Result, Ok, Err}
 use Rattle.aa_text_files.specs.Files.{File}
 use Rattle.aa_profile.specs.FileReading.{file_profiles_in}
@@ -12,7 +12,7 @@ use Rattle.aatry_folder.specs.Loadings.{TopFile}
 use Rattle.aatry_folder.specs.declared.loading.Loading.{Loading}
 use Rattle.aatry_folder.specs.declared.loading.Loading.TheVariants.{ByFlags, Disable, ForceComplain}
 
--- what a change left: what was made, or all as it was before
+-- the manager after a change: what was made, or everything as it was before
 abbrev pub made_or : Managed → Result Managed Refusal → Managed
 made_or before (Ok managed) = managed
 made_or before (Err refusal) = before
@@ -32,7 +32,7 @@ switch ByFlags managed name = Ok managed
 switch ForceComplain managed name = in_mode ComplainMode managed name
 switch Disable managed name = disabled managed name
 
--- with that change of each of these profiles in its turn
+-- with that change of each of these profiles, one after the other
 abbrev pub switched : Loading → Managed → List (List ℕ) → Managed
 switched loading managed [] = managed
 switched loading managed (name ∷ names) = switched loading (made_or managed (switch loading managed name)) names
@@ -47,17 +47,17 @@ abbrev pub switched_if : Loading → List (List ℕ) → Managed → Result Mana
 switched_if loading names before (Ok managed) = switched loading managed names
 switched_if loading names before (Err refusal) = before
 
--- with the profiles of a file, loaded as it says, or as it was where the file is refused
+-- with the profiles of a file, loaded as it is to be, or as it was where the file is refused
 abbrev pub with_file : List File → Managed → TopFile → Managed
 with_file files managed file =
     switched_if file.loading (profile_names (file_profiles_in managed.settings.language files file.name)) managed (made files managed (Add file.name))
 
--- with the profiles of each of these files in its turn
+-- with the profiles of each of these files, one after the other
 abbrev pub loaded : List File → Managed → List TopFile → Managed
 loaded files managed [] = managed
 loaded files managed (file ∷ top) = loaded files (with_file files managed file) top
 
--- why each of these files is refused in its turn, if it is
+-- why each of these files is refused, if it is
 abbrev pub outcomes : List File → Managed → List TopFile → List (Option Refusal)
 outcomes files managed [] = []
 outcomes files managed (file ∷ top) = refusal_in files managed file.name ∷ outcomes files (with_file files managed file) top

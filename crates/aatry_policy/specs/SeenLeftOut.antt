@@ -10,6 +10,6 @@ seen_left_out file = record { name = file.name.now; refusal = file.refusal }
 abbrev pub all_left_out : List CodeFile → List LeftOut
 all_left_out files = map seen_left_out files
 
--- the words that tell them
+-- the words for them
 abbrev pub seen_words : CodeWords → LeftOutWords
 seen_words words = record { kind = words.kind.now; before = words.before.now; behind = words.behind.now }

@@ -1,2 +1,2 @@
--- What is about the code: the parts of one slot.
+-- Definitions about the code: the parts of one slot.
 pub mod Slots

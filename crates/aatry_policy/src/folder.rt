@@ -18,7 +18,7 @@ use std::alloc::{AllocError, Global};
 pub struct LoadedFolder<'a> {
     /// The folder.
     pub folder: &'a PolicyFolder<'a>,
-    /// The policy set of these files, how each of them came out, and where each profile was read.
+    /// The policy set of these files, which of them were refused, and where each profile was read.
     pub policy: Policy,
 }
 
@@ -33,15 +33,15 @@ pub fn by_parts<'a>(folder: &'a PolicyFolder<'_>, parts: &'a [Part<'a>]) -> Fold
     }
 }
 
-/// Loads the files at the top of a folder, as `load` does by the folder's language and as each is to be loaded, and puts what is told and noted of
-/// those that are left out behind a report. Told is, in lines that tell at length, a line of each with its path, the number and the name of its
-/// refusal, what is wrong, in words, and where, if it has a place; in other lines nothing; and in records one of the kind `left_out`, with `file`, `number`,
-/// `refusal` and `words`. Where a file is left out since another one, or itself, wasn't read, the path of that and why it wasn't come in place of the
-/// refusal, in records as `unread` and `words`. Noted is, where there are any, how many there are, and the command that tells what is wrong with each.
+/// Loads the files at the top of a folder, like `load` by the folder's language and as each is to be loaded, and appends those that are left out,
+/// with the notes on them, to a report. Verbose lines have one for each with its path, the number and the name of its refusal, what is wrong, in
+/// words, and where, if it has a place; other lines have none; and records have one of the kind `left_out`, with `file`, `number`, `refusal` and
+/// `words`. Where a file is left out since another one, or itself, wasn't read, the path of that and why it wasn't come in place of the refusal, in
+/// records as `unread` and `words`. Where there are any, it is noted how many there are, and the command that reports what is wrong with each.
 ///
 /// # Errors
 ///
-/// Where memory runs out. What is told of some files may have been put then.
+/// Where memory runs out. The report on some files may have been appended then.
 pub fn load_folder<'a>(
     teller: Teller,
     folder: &'a PolicyFolder<'a>,

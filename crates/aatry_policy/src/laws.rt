@@ -31,9 +31,9 @@ use aa_set_manager::what_changes_keep;
 use aa_start::FileSystem;
 use aatry_folder::what_cannot_be_read_is_never_entered;
 
-/// Of each profile, child and hat that the files of a folder load, its full name leads back to it as a name that asks; and the folder has a part of that
-/// name, of which the first has exactly the rules by which it decides, and its flag that audits them. So what `aatry who` tells below a name are rules
-/// of who has it.
+/// For each profile, child and hat that the files of a folder load, its full name leads back to it as an asker; and the folder has a part of that
+/// name, the first of which has exactly the rules by which it decides, and its flag that audits them. So what `aatry who` prints below a name are
+/// rules of what has it.
 pub fn which_rules_parts_have()
     ensures names_lead_back { (folder : Folder) (who : Asker)
         → IsListed (policy_in folder) who
@@ -45,9 +45,9 @@ pub fn which_rules_parts_have()
     what_changes_keep();
 }
 
-/// Each profile that a file spells has an origin of its own, in the order of the file, and each that the files of a folder load has one, in the order of
-/// the set: the file of the origin spells that profile, and the origin has the places that the file has for it. So the first origin of a name is that
-/// of the loaded profile of this name.
+/// Each profile of a file has an origin of its own, in the order of the file, and each that the files of a folder load has one, in the order of the
+/// set: the file of the origin has that profile, and the origin has the places that the file has for it. So the first origin of a name is that of
+/// the loaded profile of this name.
 pub fn where_loaded_profiles_are_read()
     ensures of_a_file { (language : Language) (files : List File) (name : List ℕ) (profiles : List Profile) (force_complain : Bool)
         → file_profiles_in language files name ≡ Ok profiles
@@ -65,9 +65,9 @@ pub fn where_loaded_profiles_are_read()
     what_changes_keep();
 }
 
-/// Each rule stands where it is told to: a profile that was read, or its child or hat at a place, has as many rules as its origin has places for it, and
-/// each of them is made by a rule of its own block in the file, with the file's variables, that is written at the place beside it. So it is of all
-/// parts of a folder, by which `who` and `diff` tell rules.
+/// Each rule is written where it is reported to be: a profile that was read, or its child or hat at an index, has as many rules as its origin has
+/// places for it, and each of them is made by a rule of its own block in the file, with the file's variables, that is written at the corresponding
+/// place. This holds of all parts of a folder, by which `who` and `diff` print rules.
 pub fn where_loaded_rules_are_written()
     ensures of_profiles { (language : Language) (files : List File) (profile : Profile) (origin : Origin) (child : Option ℕ)
         → IsReadAt language files profile origin
@@ -80,7 +80,7 @@ pub fn where_loaded_rules_are_written()
 }
 
 /// No profile is read of a file that couldn't be read, nor of any other that leads to it by includes, through however many files: where files are
-/// taken as `aatry_folder::policy_below` takes them, reading such a file by its name comes to a fault, so that it loads nothing.
+/// gathered as by `aatry_folder::policy_below`, reading such a file by its name is a fault, so that it loads nothing.
 pub fn what_cannot_be_read_gives_no_profile<D: FileSystem>(disk: &D)
     ensures { (language : Language) (base : List ℕ) (files : List File) (unread : List (Option UnreadFault)) (name : List ℕ) (one other : ℕ) (way : List ℕ) (fault : UnreadFault)
         → AreTakenSo (D.known disk.now) base files unread

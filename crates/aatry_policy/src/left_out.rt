@@ -1,4 +1,4 @@
-//! What is told of the files that are left out of a policy set.
+//! The report on the files that are left out of a policy set.
 
 ghost use Rattle.std.specs.Prelude.{◌≡◌, ◌++◌, IfOk, OnOk, codes, map};
 ghost use Rattle.aatry_folder.specs.Loadings.{file_names, seen_top};
@@ -18,18 +18,18 @@ use aatry_folder::PolicyFolder;
 use aatry_report::{Form, Record, Teller, path_below, push_shown};
 use std::alloc::{AllocError, Global};
 
-/// The words that tell a file that is left out.
+/// The words for a file that is left out.
 #[derive(Clone, Copy)]
 pub struct LeftOutWords<'a> {
     /// The kind of its record.
     pub kind: &'a str,
-    /// What stands before its path on its line.
+    /// The words before its path on its line.
     pub before: &'a str,
-    /// What stands behind its path there, and before why it is left out.
+    /// The words between its path and why it is left out.
     pub behind: &'a str,
 }
 
-// Puts why a file wasn't read behind a text, by its name in its folder.
+// Appends why a file wasn't read to a text, by its name in its folder.
 fn push_unread(
     alloc: Global,
     base: &[u8],
@@ -45,7 +45,7 @@ fn push_unread(
     out.extend_from_slice(words.as_bytes())
 }
 
-// Puts it into a record.
+// Puts why a file wasn't read into a record, by its name in its folder.
 fn put_unread(
     alloc: Global,
     base: &[u8],
@@ -61,12 +61,12 @@ fn put_unread(
     into.put_text(alloc, "words", words.as_bytes())
 }
 
-/// Puts why a file of a folder is left out behind a text: the number and the name of its refusal, what is wrong, in words, and where, if it has a place; or,
-/// where the refusal stands in a file that wasn't read, be it another one or itself, the path of that and why it wasn't.
+/// Appends why a file of a folder is left out to a text: the number and the name of its refusal, what is wrong, in words, and where, if it has a
+/// place; or, where the refusal is in a file that wasn't read, be it another one or itself, the path of that and why it wasn't.
 ///
 /// # Errors
 ///
-/// Where memory runs out. A beginning may have been put then.
+/// Where memory runs out. A beginning may have been appended then.
 pub fn push_reason(
     alloc: Global,
     folder: &PolicyFolder<'_>,
@@ -88,7 +88,7 @@ pub fn push_reason(
     }
 }
 
-/// Puts the same into a record, but for the place: as `number`, `refusal` and `words`, or as `unread` and `words`.
+/// Puts why a file of a folder is left out into a record, without the place: as `number`, `refusal` and `words`, or as `unread` and `words`.
 ///
 /// # Errors
 ///
@@ -114,7 +114,7 @@ pub fn put_reason(
     }
 }
 
-// Puts the line of a file that is left out behind a text, by its path.
+// Appends the line of a file that is left out to a text, by its path.
 fn push_line(
     alloc: Global,
     words: LeftOutWords<'_>,
@@ -151,7 +151,7 @@ fn file_record(
     Ok(made)
 }
 
-// Puts what is told of a file that is left out behind a text, by its path.
+// Appends the line or record of a file that is left out to a text, by its path.
 fn push_text(
     teller: Teller,
     words: LeftOutWords<'_>,
@@ -171,7 +171,7 @@ fn push_text(
     }
 }
 
-// Puts what is told of a file of a folder behind a text that is left out.
+// Appends a file of a folder that is left out to a text.
 fn push_file(
     teller: Teller,
     words: LeftOutWords<'_>,
@@ -186,12 +186,12 @@ fn push_file(
     push_text(teller, words, folder, &path, file.refusal, out)
 }
 
-/// Puts what is told of files of a folder behind a text that are left out: a line of each, with words before and behind its path, and then why it is left
-/// out (`push_reason`); or a record of the kind that the words name, with `file` and the same (`put_reason`).
+/// Appends files of a folder that are left out to a text: a line of each, with words before and after its path, and then why it is left out
+/// (`push_reason`); or a record of the kind that the words name, with `file` and the same (`put_reason`).
 ///
 /// # Errors
 ///
-/// Where memory runs out. What is told of some files may have been put then.
+/// Where memory runs out. The report on some files may have been appended then.
 pub fn push_files(
     teller: Teller,
     words: LeftOutWords<'_>,
@@ -210,7 +210,7 @@ pub fn push_files(
     Ok(())
 }
 
-// Puts what is told of each file behind a text that is left out, with its path and why it is.
+// Appends each file that is left out to a text, with its path and the reason.
 fn push_each(
     teller: Teller,
     folder: &PolicyFolder<'_>,
@@ -230,7 +230,7 @@ fn push_each(
     push_files(teller, words, folder, &files, out)
 }
 
-// Whether each file that is left out is told: by records always, and by lines where they tell at length.
+// Whether each file that is left out is reported: always in records, and in verbose lines.
 fn is_listed(teller: Teller) -> bool
     ensures { result ≡ is_listed teller.form teller.verbose }
 {
@@ -240,12 +240,12 @@ fn is_listed(teller: Teller) -> bool
     }
 }
 
-/// Puts what is told of each file of a folder behind a text that is left out, with its path and why it is: why it is refused, or why another file that
-/// it includes, or itself, wasn't read, with the path of that. In lines nothing is told, unless they tell at length.
+/// Appends each file of a folder that is left out to a text, with its path and the reason: why it is refused, or why another file that it includes,
+/// or itself, wasn't read, with the path of that. Lines have none, unless they are verbose.
 ///
 /// # Errors
 ///
-/// Where memory runs out. A beginning may have been put then.
+/// Where memory runs out. A beginning may have been appended then.
 pub fn push_left_out(
     teller: Teller,
     folder: &PolicyFolder<'_>,

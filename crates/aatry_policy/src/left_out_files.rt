@@ -18,7 +18,7 @@ pub struct LeftOut<'a> {
     pub refusal: Refusal,
 }
 
-// Appends a file to others, if it is left out.
+// Appends a file to `files`, if it is left out.
 fn push_if<'a>(
     name: &'a str,
     outcome: Option<Refusal>,
@@ -35,7 +35,7 @@ fn push_if<'a>(
     }
 }
 
-/// Those of some files that are left out, in their order, by how each came out.
+/// Those of some files that are left out, in their order, by whether each was refused.
 ///
 /// # Errors
 ///

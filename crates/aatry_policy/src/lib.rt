@@ -1,5 +1,5 @@
-//! The policy set that the files of a folder make together, which of them are left out, where its profiles were read, and its parts: the profiles, and
-//! the children and hats of these, with the places of their rules.
+//! The policy set that the files of a folder make together, which of them are left out, where its profiles were read, and its parts: the profiles,
+//! and the children and hats of these, with the places of their rules.
 #![tactic(auto)]
 
 mod folder;

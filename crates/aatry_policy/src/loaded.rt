@@ -1,4 +1,5 @@
-//! What holds of the policy set that the files of a folder make, and of its parts, as a law over the definitions that the calls are proved to follow.
+//! What holds of the policy set that the files of a folder make, and of its parts, as a law over the definitions that the calls are proved to
+//! follow.
 
 ghost use Rattle.std.specs.Prelude.{◌≡◌, ℕ, List, true};
 ghost use Rattle.std.specs.List.{Contains};
@@ -15,8 +16,8 @@ ghost use Rattle.aatry_policy.specs.Loaded.{entries_in};
 use aa_profile::{how_profiles_are_named, which_patterns_read, which_rules_agree};
 use aa_set_manager::what_changes_keep;
 
-/// No two profiles that the files of a folder load have one name, and the names of each are as the grammar says, with no two children or hats of one.
-/// They are those of the files that are taken, one file's behind the other's, each loaded as its file is to be: in force, it and its children and
+/// No two profiles that the files of a folder load have one name, and the names of each follow the grammar, with no two children or hats of one.
+/// They are those of the files that are taken, one file's after the other's, each loaded as its file is to be: in force, it and its children and
 /// hats in the modes of their own flags; in complain mode, all of it; or disabled. Its rules agree, and their patterns read. And of each part of the
 /// folder, the first of its full name is that of a profile, child or hat that is loaded, in its mode or disabled as it is.
 pub fn what_folders_load()

@@ -1,4 +1,4 @@
-//! What is noted of the files that are left out of a policy set.
+//! The note on the files that are left out of a policy set.
 
 ghost use Rattle.std.specs.Prelude.{◌≡◌, ◌++◌, OnOk};
 ghost use Rattle.std.specs.Str.{bytes_eq};
@@ -25,7 +25,7 @@ fn left_out_count(outcomes: &[Option<Refusal>]) -> usize
     number
 }
 
-// Puts how many files there are behind a text, as a note on several begins.
+// Appends how many files there are to a text, like a note on several begins.
 fn push_several(number: usize, out: &mut Vec<u8>) -> Result<(), AllocError>
     ensures { OnOk result (out.new.items ≡ out.old.items ++ several_text number) }
 {
@@ -33,7 +33,7 @@ fn push_several(number: usize, out: &mut Vec<u8>) -> Result<(), AllocError>
     out.extend_from_slice(b" files")
 }
 
-// The same as any note begins.
+// Appends how many files there are to a text, like any note begins.
 fn push_files(number: usize, out: &mut Vec<u8>) -> Result<(), AllocError>
     ensures { OnOk result (out.new.items ≡ out.old.items ++ files_text number) }
 {
@@ -44,7 +44,7 @@ fn push_files(number: usize, out: &mut Vec<u8>) -> Result<(), AllocError>
     }
 }
 
-// Puts the option behind a text that has a command read policy by a language, if it needs one.
+// Appends the option with which a command reads policy by a language to a text, if it needs one.
 fn push_language(language: Language, out: &mut Vec<u8>) -> Result<(), AllocError>
     ensures { OnOk result (out.new.items ≡ out.old.items ++ language_option language) }
 {
@@ -61,7 +61,7 @@ fn is_default(base: &str) -> bool
     base == DEFAULT_BASE
 }
 
-// Puts the option behind a text that has a command read a folder, if it needs one.
+// Appends the option with which a command reads a folder to a text, if it needs one.
 fn push_base(base: &str, out: &mut Vec<u8>) -> Result<(), AllocError>
     ensures { OnOk result (out.new.items ≡ out.old.items ++ base_option base.now) }
 {
@@ -72,12 +72,12 @@ fn push_base(base: &str, out: &mut Vec<u8>) -> Result<(), AllocError>
     push_shown(out, base.as_bytes())
 }
 
-/// Puts the note on the files of a folder behind a text that are left out: a line with how many there are, and the command that tells what is wrong
-/// with each. Where none is left out, nothing is put.
+/// Appends the note on the files of a folder that are left out to a text: a line with how many there are, and the command that reports what is wrong
+/// with each. Where none is left out, nothing is appended.
 ///
 /// # Errors
 ///
-/// Where memory runs out. A beginning may have been put then.
+/// Where memory runs out. A beginning may have been appended then.
 pub fn push_note(
     language: Language,
     base: &str,

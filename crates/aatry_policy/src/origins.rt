@@ -16,7 +16,7 @@ pub struct Origin {
     pub profile: Sequence<u8>,
     /// The name of the file that it was read of.
     pub file: Sequence<u8>,
-    /// Where it has what it has; none where that isn't known any more, since the files were read anew.
+    /// The places of its parts; `None` where these aren't known any more, since the files were read anew.
     pub places: Option<ProfilePlaces>,
 }
 
@@ -36,7 +36,7 @@ fn own_origin(
     })
 }
 
-// Appends the origin of the first of some profiles of a file, if there is one, and returns those behind it.
+// Appends the origin of the first of some profiles of a file, if there is one, and returns those after it.
 fn push_origin<'p>(
     alloc: Global,
     file: &[u8],
@@ -56,7 +56,7 @@ fn push_origin<'p>(
     }
 }
 
-/// The origins of the profiles of a file, by its name, in their order, with where they have what they have.
+/// The origins of the profiles of a file, by its name, in their order, with the places of their parts.
 ///
 /// # Errors
 ///
@@ -77,7 +77,7 @@ pub fn origins_of(
     Ok(origins)
 }
 
-/// The first of some origins that is that of a profile of this name, if one is. It takes no memory.
+/// The first of some origins that is that of a profile of this name, if one is. `O(n)` in the number of origins. It takes no memory.
 pub fn origin_in<'a>(origins: &'a [Origin], name: &[u8]) -> Option<&'a Origin>
     ensures { option_map (λ origin. origin.now) result ≡ origin_in name.now origins.now }
 {
@@ -101,7 +101,7 @@ pub fn file_of<'a>(origin: Option<&'a Origin>) -> &'a [u8]
     }
 }
 
-// Where a profile has what it has, by its origin, if that is known.
+// The places of a profile's parts, by its origin, if they are known.
 fn places_of<'a>(origin: Option<&'a Origin>) -> Option<&'a ProfilePlaces>
     ensures { option_map (λ places. places.now) result ≡ places_of (option_map (λ origin. origin.now) origin.entry) }
 {
@@ -114,7 +114,7 @@ fn places_of<'a>(origin: Option<&'a Origin>) -> Option<&'a ProfilePlaces>
     }
 }
 
-// The places of the rules of a profile, or of its child or hat at a place.
+// The places of the rules of a profile, or of its child or hat at an index.
 fn places_in(places: &ProfilePlaces, child: Option<usize>) -> &[Option<Place>]
     ensures { result.now ≡ places_in places.now child }
 {
@@ -127,7 +127,7 @@ fn places_in(places: &ProfilePlaces, child: Option<usize>) -> &[Option<Place>]
     }
 }
 
-// The flags of a profile that decide nothing, or those of its child or hat at a place.
+// The flags of a profile that decide nothing, or those of its child or hat at an index.
 fn flags_in(places: &ProfilePlaces, child: Option<usize>) -> &[Sequence<u8>]
     ensures { result.now ≡ flags_in places.now child }
 {
@@ -140,7 +140,7 @@ fn flags_in(places: &ProfilePlaces, child: Option<usize>) -> &[Sequence<u8>]
     }
 }
 
-// The same by its origin; none where these aren't known.
+// The flags that decide nothing of a profile, or of its child or hat at an index, by its origin; none where these aren't known.
 pub fn idle_flags<'a>(origin: Option<&'a Origin>, child: Option<usize>) -> &'a [Sequence<u8>]
     ensures { result.now ≡ idle_flags (option_map (λ origin. origin.now) origin.entry) child }
 {
@@ -150,7 +150,7 @@ pub fn idle_flags<'a>(origin: Option<&'a Origin>, child: Option<usize>) -> &'a [
     }
 }
 
-/// The places of the rules of a profile, or of its child or hat at a place, by its origin; none where these aren't known.
+/// The places of the rules of a profile, or of its child or hat at an index, by its origin; none where these aren't known.
 pub fn rule_places<'a>(origin: Option<&'a Origin>, child: Option<usize>) -> &'a [Option<Place>]
     ensures { result.now ≡ rule_places (option_map (λ origin. origin.now) origin.entry) child }
 {

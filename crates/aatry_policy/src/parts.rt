@@ -28,11 +28,11 @@ pub struct Part<'a> {
     pub file: &'a [u8],
     /// What it has; of its flags that decide nothing there are none where they aren't known.
     pub section: Section<'a>,
-    /// Where its rules stand.
+    /// Where its rules are written.
     pub places: &'a [Option<Place>],
 }
 
-// The mode in which a loaded profile confines, or its child or hat at a place; none where it is disabled.
+// The mode in which a loaded profile confines, or its child or hat at an index; `None` where it is disabled.
 fn mode_in(entry: &Entry, child: Option<usize>) -> Option<Mode>
     ensures { result ≡ mode_in entry.now.state child }
 {
@@ -61,7 +61,7 @@ fn profile_section<'a>(flags: &'a [Sequence<u8>], entry: &'a Entry) -> Section<'
     }
 }
 
-// What a child or hat has that stands at a place of a loaded profile.
+// What the child or hat at an index of a loaded profile has.
 fn child_section<'a>(
     flags: &'a [Sequence<u8>],
     entry: &Entry,
@@ -80,7 +80,7 @@ fn child_section<'a>(
     }
 }
 
-// The part that a loaded profile is by itself.
+// The part of a loaded profile itself.
 fn profile_part<'a>(
     alloc: Global,
     origin: Option<&'a Origin>,
@@ -97,7 +97,7 @@ fn profile_part<'a>(
     })
 }
 
-// The part that a child or hat of a loaded profile is, at its place.
+// The part of a child or hat of a loaded profile, by its index.
 fn child_part<'a>(
     alloc: Global,
     origin: Option<&'a Origin>,
@@ -116,7 +116,7 @@ fn child_part<'a>(
     })
 }
 
-// Appends the parts that children and hats of a loaded profile are.
+// Appends the parts of the children and hats of a loaded profile.
 fn push_children<'a>(
     alloc: Global,
     origin: Option<&'a Origin>,
@@ -167,7 +167,7 @@ fn first_of(origins: &[Origin]) -> Option<&Origin>
     }
 }
 
-// The origins that are left behind what a slot holds.
+// The origins that are left after that of what a slot holds.
 fn left_behind<'a>(slot: &Option<Entry>, origins: &'a [Origin]) -> &'a [Origin]
     ensures { result.now ≡ left_behind slot.now origins.now }
 {
@@ -195,7 +195,7 @@ fn push_slot<'a>(
     }
 }
 
-// The parts of what slots hold, each entry with its own of some origins.
+// The parts of what slots hold, each entry with its own origin.
 fn slots_parts<'a>(
     alloc: Global,
     slots: &'a [Option<Entry>],
@@ -214,8 +214,8 @@ fn slots_parts<'a>(
     Ok(parts)
 }
 
-/// The parts of a policy set, in its order: each profile, and behind it its children and hats in the order of the file. `origins` tells where each of its
-/// profiles was read, in the order of the set.
+/// The parts of a policy set, in its order: each profile, followed by its children and hats in the order of the file. `origins` are where each of
+/// its profiles was read, in the order of the set.
 ///
 /// # Errors
 ///
@@ -231,7 +231,7 @@ pub fn parts_of<'a>(
     slots_parts(alloc, slots.as_slice(), origins)
 }
 
-/// The first of some parts that has a full name, if one has it. It takes no memory.
+/// The first of some parts that has a full name, if one has it. `O(n)` in the number of parts. It takes no memory.
 pub fn part_of<'p, 'a>(parts: &'p [Part<'a>], who: &[u8]) -> Option<&'p Part<'a>>
     ensures { option_map (λ part. seen_part part.now) result ≡ part_of (map seen_part parts.now) who.now }
 {

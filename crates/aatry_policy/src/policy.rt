@@ -1,4 +1,4 @@
-//! A policy set, as files make it one behind the other.
+//! A policy set, made by files one after the other.
 
 ghost use Rattle.std.specs.Prelude.{◌≡◌, ◌++◌, IfErr, IfOk, OnErr, OnOk, false, is_err, map, string_bytes, true};
 ghost use Rattle.aa_set_commands.specs.declared.refusal.RefusalKind.TheVariants.{Memory};
@@ -19,13 +19,13 @@ use aa_text_files::Files;
 use aatry_folder::{Loading, TopFile};
 use std::alloc::{AllocError, Global};
 
-/// The policy set of some files, and how each of them came out.
+/// The policy set of some files, and which of them were refused.
 #[derive(Drop)]
 pub struct Policy {
-    /// The policy set of the files that were taken, and its history: each of them is one change, and behind it each profile of it that is put into
-    /// complain mode or disabled.
+    /// The policy set of the files that were taken, and its history: each file is one change, followed by one for each profile of it that is put
+    /// into complain mode or disabled.
     pub manager: Manager,
-    /// For each file, in their order, why it was refused; none where it was taken.
+    /// For each file, in their order, why it was refused; `None` where it was taken.
     pub outcomes: Vec<Option<Refusal>>,
     /// Where each profile of the policy set was read, in its order.
     pub origins: Vec<Origin>,
@@ -52,7 +52,7 @@ fn names_of(alloc: Global, profiles: &[Profile]) -> Result<Vec<Sequence<u8>>, Al
     Ok(names)
 }
 
-// What a change came to that is refused for want of memory alone; one that is refused otherwise leaves all as it was.
+// The outcome of a change that is refused for want of memory alone; one that is refused otherwise leaves everything as it was.
 fn unless_memory(made: Result<(), Refusal>) -> Result<(), AllocError>
     ensures ok { OnOk result (IfErr made (λ refusal. ¬ (refusal.refusal ≡ Memory))) }
     ensures memory { OnErr result ((is_err made ≡ true) × IfErr made (λ refusal. refusal.refusal ≡ Memory)) }
@@ -74,7 +74,7 @@ fn switch(manager: &mut Manager, loading: Loading, name: &[u8]) -> Result<(), Al
     }
 }
 
-// The same of each of some profiles, by their names.
+// Makes the change of each of some profiles, by their names, as their file is loaded.
 fn switch_each(
     manager: &mut Manager,
     loading: Loading,
@@ -90,7 +90,7 @@ fn switch_each(
     Ok(())
 }
 
-// Makes that change of each profile of a file that was added, and appends where they were read to others.
+// Makes the change of each profile of a file that was added, as the file is loaded, and appends where they were read to `origins`.
 fn settle(
     manager: &mut Manager,
     loading: Loading,
@@ -105,7 +105,8 @@ fn settle(
     push_all(own, origins)
 }
 
-// Adds profiles that were read of a file, loaded as the file says, or leaves all as it was where they are refused, and says why they were.
+// Adds profiles that were read of a file, loaded as the file is to be; or leaves everything as it was where they are refused, and returns why they
+// were.
 fn add_read(
     alloc: Global,
     manager: &mut Manager,
@@ -137,8 +138,8 @@ fn add_read(
     }
 }
 
-// Adds the profiles of a file, read by the language of the policy set and loaded as the file says, or leaves all as it was where the file is refused,
-// and says why it was.
+// Adds the profiles of a file, read by the language of the policy set and loaded as the file is to be; or leaves everything as it was where the file
+// is refused, and returns why it was.
 fn add(
     alloc: Global,
     language: Language,
@@ -165,10 +166,10 @@ fn add(
     }
 }
 
-/// The policy set that files make, read by a language: each is read and added in its turn, as `Manager::add` does it, and each of its profiles is put
-/// into complain mode or disabled then, as `Manager::complain` and `Manager::disable` do it, where the file is loaded so. A file that is refused adds
-/// nothing, and those behind it are added all the same. So of two files with a profile of one name the first is taken. Each file is read once: where
-/// its profiles have what they have is kept beside the policy set.
+/// The policy set that files make, read by a language: they are read and added one after the other, as by `Manager::add`, and the profiles of each
+/// are put into complain mode or disabled then, as by `Manager::complain` and `Manager::disable`, where the file is loaded so. A file that is
+/// refused adds nothing, and those after it are added all the same. So of two files with a profile of one name the first is taken. Each file is read
+/// once: the places of its profiles' parts are kept beside the policy set.
 ///
 /// # Errors
 ///

@@ -1,4 +1,4 @@
-//! What is told of refusals: by number and name, and in words with their place.
+//! Refusals as they are reported: by number and name, and in words with their place.
 
 ghost use Rattle.std.specs.Prelude.{◌≡◌, ◌++◌, OnOk};
 ghost use Rattle.aatry_policy.specs.LeftOut.{place_behind, place_in, refusal_text, with_worded_refusal, worded_refusal};
@@ -13,18 +13,18 @@ use aatry_report::{
 };
 use std::alloc::{AllocError, Global};
 
-/// Puts the number and the name of a refusal behind a text.
+/// Appends the number and the name of a refusal to a text.
 ///
 /// # Errors
 ///
-/// Where memory runs out. A beginning may have been put then.
+/// Where memory runs out. A beginning may have been appended then.
 pub fn push_refusal(out: &mut Vec<u8>, refusal: Refusal) -> Result<(), AllocError>
     ensures { OnOk result (out.new.items ≡ out.old.items ++ refusal_text refusal) }
 {
     push_named_refusal(out, refusal.number(), refusal.name())
 }
 
-// Puts behind a text where in a file a refusal stands, by the file's path and its bytes.
+// Appends the place of a refusal in a file to a text, by the file's path and its bytes.
 fn push_place_in(out: &mut Vec<u8>, path: &[u8], text: &[u8], at: usize) -> Result<(), AllocError>
     ensures { OnOk result (out.new.items ≡ out.old.items ++ place_in path.now text.now at) }
 {
@@ -35,7 +35,7 @@ fn push_place_in(out: &mut Vec<u8>, path: &[u8], text: &[u8], at: usize) -> Resu
     push_number(out, ":", place.column)
 }
 
-// Puts the same of a place in one of the files below a folder, if there is one.
+// Appends the place of a refusal in one of the files below a folder to a text, if it has one.
 fn push_place_behind(
     alloc: Global,
     base: &[u8],
@@ -54,12 +54,12 @@ fn push_place_behind(
     }
 }
 
-/// Puts a refusal of a file of a folder behind a text: its number, its name, what is wrong, in the words in which a check of the file tells it, and where
-/// that is, if it has a place.
+/// Appends a refusal of a file of a folder to a text: its number, its name, what is wrong, in the words of a check of the file, and where that is,
+/// if it has a place.
 ///
 /// # Errors
 ///
-/// Where memory runs out. A beginning may have been put then.
+/// Where memory runs out. A beginning may have been appended then.
 pub fn push_worded(
     alloc: Global,
     folder: &PolicyFolder<'_>,
@@ -82,7 +82,7 @@ pub fn push_worded(
     )
 }
 
-/// Puts the same into a record, but for the place: as `number`, `refusal` and `words`.
+/// Puts a refusal of a file of a folder into a record, without the place: as `number`, `refusal` and `words`.
 ///
 /// # Errors
 ///

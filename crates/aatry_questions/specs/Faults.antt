@@ -15,7 +15,7 @@ use Rattle.aatry_questions.specs.declared.faults.WordFault.{WordFault}
 use Rattle.aatry_questions.specs.declared.faults.Wrong.{Wrong}
 use Rattle.aatry_questions.specs.declared.faults.Wrong.TheVariants.{Capability, Count, Domain, Kind, Letter, LetterTwice, NoLetter, Owned, Path, SocketType}
 
--- what is wrong, and the word, or the byte of it, with which it is
+-- what is wrong, and the word, or the byte of it, that is
 pub record Found : Type 0 where
   pub wrong : Wrong
   pub word : List ℕ
@@ -27,11 +27,11 @@ found wrong word = record { wrong = wrong; word = word }
 abbrev pub seen_fault : WordFault → Found
 seen_fault fault = found fault.wrong fault.word.now
 
--- a word is wrong, unless it is good
+-- a fault of a word, unless it is good
 abbrev pub unless : Bool → Wrong → List ℕ → Option Found
 unless good wrong word = if good then None else Some (found wrong word)
 
--- what is wrong with the first of two things, or else with the second
+-- the first fault, or else the second
 abbrev pub first_fault : Option Found → Option Found → Option Found
 first_fault (Some fault) second = Some fault
 first_fault None second = second
@@ -44,12 +44,12 @@ letters_fault set (letter ∷ more) = elim (bit_of letter) [
   | Some bit ↦ if has set bit then Some (found LetterTwice (letter ∷ [])) else letters_fault (union set bit) more
 ]
 
--- an access has a letter, and each is known and stands once
+-- an access has a letter, and each is known and occurs once
 abbrev pub access_fault : List ℕ → Option Found
 access_fault [] = Some (found NoLetter [])
 access_fault (letter ∷ more) = letters_fault 0 (letter ∷ more)
 
--- what is wrong with the words behind who asks: the first of them that is wrong
+-- what is wrong with the words after the asker: the first of them that is wrong
 abbrev pub exec_fault : List ℕ → List ℕ → Option Found
 exec_fault owned path = first_fault (unless (is_some (owned_of owned)) Owned owned) (unless (is_path path) Path path)
 
@@ -72,24 +72,24 @@ kind_fault kind = elim (kind_of kind) [
   | Some of_kind ↦ found (Count of_kind) []
 ]
 
--- what is wrong with one word behind a kind and who asks, which names the capability of this number, if it names one
+-- what is wrong with one word after a kind and the asker, which names the capability of this number, if it names one
 abbrev pub of_one : List ℕ → List ℕ → Option ℕ → Option Found
 of_one kind name number =
     if bytes_eq kind (codes "cap") then unless (is_some number) Capability name else Some (kind_fault kind)
 
--- what is wrong with two
+-- what is wrong with two words after a kind and the asker
 abbrev pub of_two : List ℕ → List ℕ → List ℕ → Option Found
 of_two kind first second =
     if bytes_eq kind (codes "net") then socket_fault first second else
     if bytes_eq kind (codes "exec") then exec_fault first second else Some (kind_fault kind)
 
--- what is wrong with three, of which the first is an access with which this is wrong, if something is
+-- what is wrong with three words after a kind and the asker, of which the first is an access with this fault, if it has one
 abbrev pub of_three : List ℕ → Option Found → List ℕ → List ℕ → Option Found
 of_three kind access owned path =
     if bytes_eq kind (codes "file") then first_fault access (exec_fault owned path) else Some (kind_fault kind)
 
--- What is wrong with words behind `ask`, if they ask no question: with the first word, with how many there are, or with the first behind who asks that
--- is wrong.
+-- What is wrong with words after `ask`, if they make no question: with the first word, with how many there are, or with the first wrong word after
+-- the asker.
 abbrev pub question_fault : List (List ℕ) → Option Found
 question_fault [] = Some (found Kind [])
 question_fault (kind ∷ who ∷ name ∷ []) = of_one kind name (capability_number name)
@@ -97,13 +97,13 @@ question_fault (kind ∷ who ∷ first ∷ second ∷ []) = of_two kind first se
 question_fault (kind ∷ who ∷ access ∷ owned ∷ path ∷ []) = of_three kind (access_fault access) owned path
 question_fault (kind ∷ words) = Some (kind_fault kind)
 
--- how a command with such words is refused: as none where their kind or their number is wrong, and else as one with a bad request
+-- the refusal of a command with such words: as none where their kind or their number is wrong, and else as one with a bad request
 abbrev pub refusal_of : Wrong → RefusalKind
 refusal_of Kind = BadCommand
 refusal_of (Count kind) = BadCommand
 refusal_of _ = BadRequest
 
--- what is wrong, and what a reading of the same words gives: a question exactly where nothing is, and else the refusal that goes with the fault
+-- what is wrong, and what a reading of the same words gives: a question exactly where nothing is, and else the refusal for the fault
 abbrev pub Agree : Option Found → Result Question Refusal → Type 0
 Agree None (Ok question) = ⊤
 Agree None (Err refusal) = ⊥

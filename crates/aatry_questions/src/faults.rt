@@ -23,7 +23,7 @@ pub enum QuestionKind {
     File,
 }
 
-/// What is wrong with words that ask no question.
+/// What is wrong with words that make no question.
 #[derive(Clone, Copy, Debug, PartialEq, Eq)]
 pub enum Wrong {
     /// The first word is no kind of questions.
@@ -34,7 +34,7 @@ pub enum Wrong {
     NoLetter,
     /// A byte of ACCESS is no letter that a question may ask for.
     Letter,
-    /// A letter of ACCESS stands before it already.
+    /// A letter of ACCESS is repeated.
     LetterTwice,
     /// OWNED is neither `owner` nor `other`.
     Owned,
@@ -48,9 +48,9 @@ pub enum Wrong {
     SocketType,
     /// The one word is a line of a log that can't be read.
     UnreadableLine,
-    /// The one word is a line of a log that tells of a request of another kind.
+    /// The one word is a line of a log with a request of another kind.
     OtherLine,
-    /// The one word is a line that tells of no request.
+    /// The one word is a line without a request.
     LineWithoutRequest,
 }
 
@@ -59,11 +59,11 @@ pub enum Wrong {
 pub struct WordFault<'a> {
     /// What is wrong.
     pub wrong: Wrong,
-    /// The word, or the byte of it. It is empty where what is wrong is about none, as about their number.
+    /// The word, or the byte of it. It is empty where the fault is in no single word, for example in how many there are.
     pub word: &'a [u8],
 }
 
-/// How a command with such words is refused. It takes no memory.
+/// The refusal of a command with such words. It takes no memory.
 pub fn refusal_of(wrong: Wrong) -> Refusal
     ensures { result ≡ plain (refusal_of wrong) }
 {
@@ -73,7 +73,7 @@ pub fn refusal_of(wrong: Wrong) -> Refusal
     }
 }
 
-// A word is wrong, unless it is good.
+// A fault of a word, unless it is good.
 fn unless<'a>(is_good: bool, wrong: Wrong, word: &'a [u8]) -> Option<WordFault<'a>>
     ensures { option_map seen_fault result ≡ unless is_good wrong word.entry.now }
 {
@@ -84,7 +84,7 @@ fn unless<'a>(is_good: bool, wrong: Wrong, word: &'a [u8]) -> Option<WordFault<'
     }
 }
 
-// What is wrong with the first of two things, or else with the second.
+// The first fault, or else the second.
 fn first_fault<'a>(
     first: Option<WordFault<'a>>,
     second: Option<WordFault<'a>>,
@@ -148,7 +148,7 @@ pub fn owned_of(word: &[u8]) -> Option<bool>
     }
 }
 
-// What is wrong with the words behind `exec` and who asks.
+// What is wrong with the words after `exec` and the asker.
 fn exec_fault<'a>(owned: &'a [u8], path: &'a [u8]) -> Option<WordFault<'a>>
     ensures { option_map seen_fault result ≡ exec_fault owned.entry.now path.entry.now }
 {
@@ -158,7 +158,7 @@ fn exec_fault<'a>(owned: &'a [u8], path: &'a [u8]) -> Option<WordFault<'a>>
     )
 }
 
-// What is wrong with the words behind `net` and who asks.
+// What is wrong with the words after `net` and the asker.
 fn socket_fault<'a>(domain: &'a [u8], sort: &'a [u8]) -> Option<WordFault<'a>>
     ensures { option_map seen_fault result ≡ socket_fault domain.entry.now sort.entry.now }
 {
@@ -185,7 +185,7 @@ pub fn kind_of(word: &[u8]) -> Option<QuestionKind>
     }
 }
 
-// What is wrong with the first word, or with how many stand behind it, where no question of its kind has so many.
+// What is wrong with the first word, or with how many follow it, where no question of its kind has so many.
 fn kind_fault(kind: &[u8]) -> Option<WordFault<'_>>
     ensures { option_map seen_fault result ≡ Some (kind_fault kind.now) }
 {
@@ -201,7 +201,7 @@ fn kind_fault(kind: &[u8]) -> Option<WordFault<'_>>
     }
 }
 
-// What is wrong with one word behind a kind and who asks, which names the capability of this number, if it names one.
+// What is wrong with one word after a kind and the asker, which names the capability of this number, if it names one.
 pub fn of_one<'a>(kind: &'a [u8], name: &'a [u8], number: Option<u8>) -> Option<WordFault<'a>>
     ensures { option_map seen_fault result ≡ of_one kind.entry.now name.entry.now number }
 {
@@ -211,7 +211,7 @@ pub fn of_one<'a>(kind: &'a [u8], name: &'a [u8], number: Option<u8>) -> Option<
     kind_fault(kind)
 }
 
-// What is wrong with two.
+// What is wrong with two words after a kind and the asker.
 fn of_two<'a>(kind: &'a [u8], first: &'a [u8], second: &'a [u8]) -> Option<WordFault<'a>>
     ensures { option_map seen_fault result ≡ of_two kind.entry.now first.entry.now second.entry.now }
 {
@@ -224,7 +224,7 @@ fn of_two<'a>(kind: &'a [u8], first: &'a [u8], second: &'a [u8]) -> Option<WordF
     kind_fault(kind)
 }
 
-// What is wrong with three, of which the first is an access with which this is wrong, if something is.
+// What is wrong with three words after a kind and the asker, of which the first is an access with this fault, if it has one.
 pub fn of_three<'a>(
     kind: &'a [u8],
     access: Option<WordFault<'a>>,
@@ -239,10 +239,10 @@ pub fn of_three<'a>(
     kind_fault(kind)
 }
 
-/// What is wrong with words that stand behind `ask`: nothing where they ask a question (`aa_set_commands::Question::read`). It takes no memory.
+/// What is wrong with words after `ask`: nothing where they make a question (`aa_set_commands::Question::read`). It takes no memory.
 ///
-/// `Kind` is told where the first word is no kind of questions, and `Count` where it is one that has more words, or fewer; and else the first word behind
-/// who asks that is wrong.
+/// The fault is `Kind` where the first word is no kind of questions, and `Count` where it is one that has more words, or fewer; and else that of the
+/// first wrong word after the asker.
 pub fn question_fault<'a>(words: &[&'a [u8]]) -> Option<WordFault<'a>>
     ensures { option_map seen_fault result ≡ question_fault (map (λ word. word.now) words.now) }
 {

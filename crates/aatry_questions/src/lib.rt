@@ -1,4 +1,4 @@
-//! The words of a question: which question they ask, or what is wrong with them, and how names stand in them.
+//! The words of a question: which question they make, or what is wrong with them, and how names are written in them.
 #![tactic(auto)]
 
 mod faults;

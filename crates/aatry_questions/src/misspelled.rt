@@ -1,4 +1,4 @@
-//! Words that are wrong, with the known one that may have been meant.
+//! Wrong words, with the known one that may have been meant.
 
 ghost use Rattle.std.specs.Prelude.{◌≡◌, ◌++◌, IfOk, OnOk, map, option_map};
 ghost use Rattle.std.specs.Option.{option_to_list};
@@ -19,7 +19,7 @@ const KINDS: [&str; 4] = ["file", "exec", "cap", "net"];
 // The words that say whether a file is owned.
 const OWNED: [&str; 2] = ["owner", "other"];
 
-// The types of sockets: each stands at its number.
+// The types of sockets, each at the index of its number.
 const SOCKET_TYPES: [&str; 6] = ["stream", "dgram", "seqpacket", "rdm", "raw", "packet"];
 
 /// What is wrong with the words of a question, with which of them, and what may have been meant.
@@ -27,7 +27,7 @@ const SOCKET_TYPES: [&str; 6] = ["stream", "dgram", "seqpacket", "rdm", "raw", "
 pub struct QuestionFault {
     /// What is wrong.
     pub wrong: Wrong,
-    /// The word, or the byte of it. It is empty where what is wrong is about none.
+    /// The word, or the byte of it. It is empty where the fault is in no single word.
     pub word: Sequence<u8>,
     /// The word that is known there and nearest to it, if one is near.
     pub near: Option<&'static [u8]>,
@@ -36,7 +36,7 @@ pub struct QuestionFault {
 // How many domains of sockets there are.
 const DOMAIN_COUNT: u8 = 44;
 
-// Puts a name behind others, if it is there.
+// Appends a name to `names`, if there is one.
 fn push_name(name: Option<&'static str>, names: &mut Vec<&'static str>) -> Result<(), AllocError>
     ensures { OnOk result (map (λ name. name.now) names.new.items
         ≡ map (λ name. name.now) names.old.items ++ option_to_list (option_map (λ name. name.now) name.entry)) }
@@ -47,7 +47,7 @@ fn push_name(name: Option<&'static str>, names: &mut Vec<&'static str>) -> Resul
     Ok(())
 }
 
-// The names of the domains of sockets, each at its number.
+// The names of the domains of sockets, each at the index of its number.
 fn domain_names(alloc: Global) -> Result<Vec<&'static str>, AllocError>
     ensures { IfOk result (λ names. map (λ name. name.now) names.items ≡ domain_names) }
 {
@@ -58,7 +58,7 @@ fn domain_names(alloc: Global) -> Result<Vec<&'static str>, AllocError>
     Ok(names)
 }
 
-// The words that are known where one is wrong.
+// The words that are known in place of a wrong one.
 fn known_words(alloc: Global, wrong: Wrong) -> Result<Vec<&'static str>, AllocError>
     ensures { IfOk result (λ words. map (λ word. word.now) words.items ≡ known_words wrong) }
 {
@@ -73,7 +73,7 @@ fn known_words(alloc: Global, wrong: Wrong) -> Result<Vec<&'static str>, AllocEr
     }
 }
 
-// The word that is compared with those that are known where it is wrong.
+// The word that is compared with those that are known in its place.
 fn likely_word(alloc: Global, wrong: Wrong, word: &[u8]) -> Result<Vec<u8>, AllocError>
     ensures { IfOk result (λ likely. likely.items ≡ likely_word wrong word.now) }
 {
@@ -83,8 +83,8 @@ fn likely_word(alloc: Global, wrong: Wrong, word: &[u8]) -> Result<Vec<u8>, Allo
     }
 }
 
-/// A fault with the known word that is nearest to the wrong one, if one is near: of several the first in the order of their table. That of a capability
-/// is compared as the kernel's and its tools' names are meant (`aatry_words::likely_name`).
+/// A fault with the known word that is nearest to the wrong one, if one is near: of several the first in the order of their table. The name of a
+/// capability is compared like the kernel and its tools write it (`aatry_words::likely_name`).
 ///
 /// # Errors
 ///
@@ -102,7 +102,7 @@ pub fn with_nearest(alloc: Global, fault: WordFault<'_>) -> Result<QuestionFault
     })
 }
 
-/// Whether a word may be meant for a kind of questions, where it is none: it is near one (`aatry_words::nearest`), and no access that a question for a file
+/// Whether a word that is no kind of questions may stand for one: it is near one (`aatry_words::nearest`), and no access that a question for a file
 /// may have (`meant_fault`).
 ///
 /// # Errors

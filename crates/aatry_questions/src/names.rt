@@ -1,4 +1,4 @@
-//! Names in the texts of questions: between quotes, with `\x..` for each byte that isn't shown as it is.
+//! Names in the texts of questions: in quotes, with `\x..` for each byte that isn't written as it is.
 
 ghost use Rattle.std.specs.Prelude.{◌≡◌, ◌≤◌, ◌++◌, ◌∷◌, IfOk, OnOk, length};
 ghost use Rattle.std.specs.List.{list_any};
@@ -8,7 +8,7 @@ use aa_bytes::two_digits;
 use hex::decode_to_slice;
 use std::alloc::{AllocError, Global};
 
-// Whether a byte stands as it is.
+// Whether a byte is written as it is.
 fn is_plain(byte: u8) -> bool
     ensures { result ≡ is_plain byte }
 {
@@ -39,7 +39,7 @@ fn push_escaped(out: &mut Vec<u8>, name: &[u8]) -> Result<(), AllocError>
     Ok(())
 }
 
-/// Appends a name to the text of a question, between quotes: each byte that is no visible ASCII character, and each quote and backslash, as `\x` and its
+/// Appends a name to the text of a question, in quotes: each byte that is no visible ASCII character, and each quote and backslash, as `\x` and its
 /// two hexadecimal digits. So a name is one word of the text, from which `unescaped` reads it back.
 ///
 /// # Errors
@@ -54,7 +54,7 @@ pub fn push_name(out: &mut Vec<u8>, name: &[u8]) -> Result<(), AllocError>
     Ok(())
 }
 
-// The byte of two hexadecimal digits, if they are some.
+// The byte of two hexadecimal digits, if they are digits.
 fn byte_of(high: u8, low: u8) -> Option<u8>
     ensures { result ≡ byte_of high low }
 {
@@ -65,7 +65,7 @@ fn byte_of(high: u8, low: u8) -> Option<u8>
     }
 }
 
-// The byte that four bytes write, if they do.
+// The byte that four bytes stand for, if they do.
 fn byte_written(first: u8, second: u8, high: u8, low: u8) -> Option<u8>
     ensures { result ≡ byte_written first second high low }
 {
@@ -76,7 +76,7 @@ fn byte_written(first: u8, second: u8, high: u8, low: u8) -> Option<u8>
     }
 }
 
-// The first byte that a text writes, of which the first byte is this one, and what stands behind it.
+// The first byte that a text stands for, of which the first byte is this one, and what follows it.
 fn first_written(byte: u8, behind: &[u8]) -> (u8, &[u8])
     ensures bytes { unescaped (byte ∷ behind.now) ≡ result.0 ∷ unescaped result.1.now }
     ensures shorter { length result.1.now ≤ length behind.now }
@@ -92,7 +92,8 @@ fn first_written(byte: u8, behind: &[u8]) -> (u8, &[u8])
     }
 }
 
-/// The bytes that a word of a question writes: `\x` and two hexadecimal digits, in either case, are the byte of these digits, and all else stands as it is.
+/// The bytes that a word of a question stands for: `\x` and two hexadecimal digits, in either case, are the byte of these digits, and any other byte
+/// is itself.
 ///
 /// # Errors
 ///
@@ -110,7 +111,7 @@ pub fn unescaped(alloc: Global, word: &[u8]) -> Result<Vec<u8>, AllocError>
     Ok(bytes)
 }
 
-/// Whether a word may write a byte otherwise than as it stands: it has a backslash. A word that has none is what `unescaped` makes of it
+/// Whether a word may stand for other bytes than its own: it has a backslash. A word that has none is what `unescaped` returns for it
 /// (`how_names_read_back`). It takes no memory.
 pub fn has_backslash(word: &[u8]) -> bool
     ensures { result ≡ list_any is_backslash word.now }

@@ -1,4 +1,4 @@
-//! Reading of the words of a question, which may be written as the kernel, its log and its tools write them.
+//! Reading of the words of a question, which may be written like the kernel, its log and its tools write them.
 
 ghost use Rattle.std.specs.Prelude.{◌≡◌, [], ◌∷◌, IfErr, IfOk, Err, Ok, Some, map, option_map};
 ghost use Rattle.aa_set_commands.specs.Question.{IsWellFormed, file_question, owned_of, question_of, seen_question};
@@ -15,7 +15,7 @@ use aa_profile_data::capability_number;
 use aa_set_commands::{Question, Refusal, RefusalKind, is_path, plain};
 use aatry_words::{capability_meant, is_mask, need_of, needs_meant};
 
-// The question for a file, of the words behind `file`.
+// The question for a file, of the words after `file`.
 fn file_question<'a>(
     who: &'a [u8],
     access: &[u8],
@@ -71,13 +71,12 @@ fn of_name<'a>(kind: &'a [u8], who: &'a [u8], name: &'a [u8]) -> Result<Question
     Question::read(&[kind, who, capability_meant(name)])
 }
 
-/// The question that words mean: as those behind `ask` do (`aa_set_commands::Question::read`), but that the name of a capability may be written as the
-/// kernel and its tools write it (`aatry_words::capability_meant`), and the access as a mask (`aatry_words::needs_meant`). It takes no
-/// memory.
+/// The question that words mean: like the words after `ask` (`aa_set_commands::Question::read`), but the name of a capability may be written like
+/// the kernel and its tools write it (`aatry_words::capability_meant`), and the access as a mask (`aatry_words::needs_meant`). It takes no memory.
 ///
 /// # Errors
 ///
-/// As those of `Question::read`: where a mask has an unknown letter `BadRequest`.
+/// Those of `Question::read`: where a mask has an unknown letter `BadRequest`.
 pub fn question_meant<'a>(words: &[&'a [u8]]) -> Result<Question<'a>, Refusal>
     ensures ok { IfOk result (λ question. question_meant (map (λ word. word.now) words.now) ≡ Ok (seen_question question)) }
     ensures refused { IfErr result (λ refusal. question_meant (map (λ word. word.now) words.now) ≡ Err refusal) }
@@ -119,14 +118,15 @@ pub fn needs_fault(access: &[u8]) -> Option<WordFault<'_>>
     }
 }
 
-// What is wrong with one word behind a kind and who asks, as it is meant.
+// What is wrong with one word after a kind and the asker, which may be written like the kernel writes it.
 fn name_fault<'a>(kind: &'a [u8], name: &'a [u8]) -> Option<WordFault<'a>>
     ensures { option_map seen_fault result ≡ of_one kind.entry.now name.entry.now (capability_number (capability_meant name.entry.now)) }
 {
     of_one(kind, name, capability_number(capability_meant(name)))
 }
 
-/// What is wrong with words that mean no question (`question_meant`), as `question_fault` tells it, with the word as it is written. It takes no memory.
+/// What is wrong with words that mean no question (`question_meant`), as `question_fault` returns it, with the word as it is written. It takes no
+/// memory.
 pub fn meant_fault<'a>(words: &[&'a [u8]]) -> Option<WordFault<'a>>
     ensures { option_map seen_fault result ≡ meant_fault (map (λ word. word.now) words.now) }
 {

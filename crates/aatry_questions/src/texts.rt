@@ -1,4 +1,4 @@
-//! What is wrong with the words of a question, told.
+//! What is wrong with the words of a question, in words.
 
 use crate::faults::{QuestionKind, Wrong};
 use crate::misspelled::QuestionFault;
@@ -16,7 +16,7 @@ fn words_of(kind: QuestionKind) -> &'static str {
     }
 }
 
-// What is wrong, in words; the word with which it is stands behind them.
+// What is wrong, in words, which the faulty word follows.
 fn words_for(wrong: Wrong) -> &'static str {
     match wrong {
         Wrong::Kind => "no kind of questions is called ",
@@ -38,11 +38,12 @@ fn words_for(wrong: Wrong) -> &'static str {
     }
 }
 
-/// Puts what is wrong with the words of a question behind a text, in words, with the known word that may have been meant. It is one line without its end.
+/// Appends what is wrong with the words of a question to a text, in words, with the known word that may have been meant. It is one line without its
+/// end.
 ///
 /// # Errors
 ///
-/// Where memory runs out. A beginning may have been put then.
+/// Where memory runs out. A beginning may have been appended then.
 pub fn push_words_fault(fault: &QuestionFault, out: &mut Vec<u8>) -> Result<(), AllocError> {
     out.extend_from_slice(words_for(fault.wrong).as_bytes())?;
     push_shown(out, fault.word.as_slice())?;
@@ -52,7 +53,7 @@ pub fn push_words_fault(fault: &QuestionFault, out: &mut Vec<u8>) -> Result<(), 
     Ok(())
 }
 
-// Puts the known word that may have been meant behind a text.
+// Appends the known word that may have been meant to a text.
 fn push_near(near: &[u8], out: &mut Vec<u8>) -> Result<(), AllocError> {
     out.extend_from_slice(b": did you mean ")?;
     push_shown(out, near)?;
@@ -60,7 +61,7 @@ fn push_near(near: &[u8], out: &mut Vec<u8>) -> Result<(), AllocError> {
     Ok(())
 }
 
-// How many words a question of a kind has from which who asks is left out, and which.
+// How many words a question of a kind has without the asker, and which.
 fn letting_words_of(kind: QuestionKind) -> &'static str {
     match kind {
         QuestionKind::Cap => "behind who, a question for a capability has two words: cap NAME",
@@ -72,12 +73,12 @@ fn letting_words_of(kind: QuestionKind) -> &'static str {
     }
 }
 
-/// Puts what is wrong with the words of a question from which who asks is left out behind a text, as `push_words_fault` does: where it is their number, with
-/// the words that such a question has.
+/// Appends what is wrong with the words of a question without the asker to a text, like `push_words_fault`: where it is their number, with the words
+/// that such a question has.
 ///
 /// # Errors
 ///
-/// Where memory runs out. A beginning may have been put then.
+/// Where memory runs out. A beginning may have been appended then.
 pub fn push_letting_fault(fault: &QuestionFault, out: &mut Vec<u8>) -> Result<(), AllocError> {
     match fault.wrong {
         Wrong::Count(kind) => out.extend_from_slice(letting_words_of(kind).as_bytes()),

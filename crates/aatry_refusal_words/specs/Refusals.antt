@@ -23,7 +23,7 @@ kind_words kind.BadRequest = codes "no question can have these words, or no mark
 kind_words kind.NoMark = codes "no mark has this name"
 kind_words kind.Memory = codes "memory ran out"
 
--- by a kind and a place: with a file what its place names, and else what the kind says
+-- what is wrong by a kind and a place: with a file what its place names, and else what the kind says
 abbrev pub words_by : Language → List File → RefusalKind → Option Place → List ℕ
 words_by language files (kind.File refusal) place = words_at language files refusal place
 words_by language files other place = kind_words other

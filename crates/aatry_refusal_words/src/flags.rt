@@ -1,4 +1,4 @@
-//! The flag that there isn't, in the token of FLAGS that holds it.
+//! The unknown flag in the token of FLAGS that holds it.
 
 ghost use Rattle.std.specs.Prelude.{◌≡◌, ◌<◌, ◌≤◌, ◌∷◌, not, IfOk, IfSome, length};
 ghost use Rattle.std.specs.List.{prefix_len, slice_split};
@@ -14,7 +14,7 @@ use aa_profile_parsing::{Language, read_flags};
 use aa_text_tokens::{Spliced, Token, TokenKind};
 use std::alloc::{AllocError, Global};
 
-// What stands behind the first `(` of a text, or all of one that has none.
+// What follows the first `(` of a text, or the whole text where it has none.
 fn behind_parenthesis(text: &[u8]) -> &[u8]
     ensures { result.now ≡ behind_parenthesis text.now }
 {
@@ -25,7 +25,7 @@ fn behind_parenthesis(text: &[u8]) -> &[u8]
     behind(1, behind(size, text))
 }
 
-// The list of flags in a token of FLAGS: what stands between the parentheses.
+// The list of flags in a token of FLAGS: what is between the parentheses.
 fn flag_list(text: &[u8]) -> &[u8]
     ensures { result.now ≡ flag_list text.now }
 {
@@ -34,7 +34,7 @@ fn flag_list(text: &[u8]) -> &[u8]
     &list[..size]
 }
 
-// A token of a text that is its own.
+// A token with a text of its own.
 fn token_of(kind: TokenKind, text: &[u8]) -> Spliced<'_>
     ensures { seen_spliced result ≡ token_of kind text.now }
 {
@@ -49,7 +49,7 @@ fn token_of(kind: TokenKind, text: &[u8]) -> Spliced<'_>
     }
 }
 
-// Whether FLAGS that are this text are read.
+// Whether FLAGS with this text are read.
 fn are_read(language: Language, text: &[u8]) -> bool
     ensures { result ≡ are_read language text.now }
 {
@@ -63,7 +63,7 @@ fn are_read(language: Language, text: &[u8]) -> bool
     }
 }
 
-// The list that has a word alone.
+// The list with only one word.
 fn list_of(alloc: Global, word: &[u8]) -> Result<Vec<u8>, AllocError>
     ensures { IfOk result (λ list. list.items ≡ list_of word.now) }
 {
@@ -82,7 +82,7 @@ fn is_flag(alloc: Global, language: Language, word: &[u8]) -> Result<bool, Alloc
     Ok(are_read(language, &list))
 }
 
-// Whether there is a word, and it is no flag.
+// Whether a word isn't empty, and no flag.
 fn is_unknown(alloc: Global, language: Language, word: &[u8]) -> Result<bool, AllocError>
     ensures { IfOk result (λ unknown. unknown ≡ is_unknown language word.now) }
 {
@@ -110,7 +110,7 @@ fn word_size(list: &[u8]) -> usize
     length_while(list, |byte| !separates(byte))
 }
 
-// The first word of a list, and what stands behind its separator, if there is one.
+// The first word of a list, and what follows its separator, if there is one.
 fn first_word(list: &[u8]) -> (&[u8], Option<&[u8]>)
     ensures words { slice_split separates list.now ≡ result.0.now ∷ words_of_rest (option_map (λ rest. rest.now) result.1) }
     ensures shorter { IfSome result.1 (λ rest. length rest.now < length list.now) }
@@ -123,7 +123,7 @@ fn first_word(list: &[u8]) -> (&[u8], Option<&[u8]>)
     }
 }
 
-// The first word of a list that is no flag, if one is none.
+// The first word of a list that is no flag, if there is one.
 fn first_unknown(
     alloc: Global,
     language: Language,
@@ -144,8 +144,8 @@ fn first_unknown(
     }
 }
 
-/// The first flag in a token of FLAGS that there isn't in a language, if one isn't there: the first word between the parentheses that FLAGS can't
-/// have alone.
+/// The first flag in a token of FLAGS that a language doesn't have, if there is one: the first word between the parentheses that FLAGS can't have
+/// alone.
 ///
 /// # Errors
 ///

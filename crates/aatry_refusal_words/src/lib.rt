@@ -1,4 +1,4 @@
-//! What is wrong with a file of policy that is refused, in words that go by what stands at the place; and with a command that is.
+//! What is wrong with a file of policy that is refused, in words that depend on the text at the place; and with a command that is refused.
 #![tactic(auto)]
 
 mod flags;

@@ -1,4 +1,4 @@
-//! What is wrong with what stands at a place, in words that go by it.
+//! What is wrong with the text at a place, in words that depend on it.
 
 ghost use Rattle.std.specs.Prelude.{◌≡◌, ◌++◌, IfOk, OnOk, codes};
 ghost use Rattle.std.specs.Option.{option_map};
@@ -12,7 +12,7 @@ use aa_text_files::{Files, Place, TextRefusal};
 use aatry_report::push_shown;
 use std::alloc::{AllocError, Global};
 
-// Words, and a text as it is shown, between backquotes.
+// Words, and a text as it is shown, in backquotes.
 fn named(alloc: Global, words: &str, text: &[u8]) -> Result<Vec<u8>, AllocError>
     ensures { IfOk result (λ made. made.items ≡ named words.now text.now) }
 {
@@ -34,14 +34,14 @@ fn flag_words(alloc: Global, language: Language, text: &[u8]) -> Result<Vec<u8>,
     }
 }
 
-// What is wrong with a name that can't stand, in words.
+// What is wrong with a name that can't be one, in words.
 fn name_words(alloc: Global, text: &[u8]) -> Result<Vec<u8>, AllocError>
     ensures { IfOk result (λ words. words.items ≡ name_words text.now) }
 {
     named(alloc, "no profile, child, hat or target can be named", text)
 }
 
-// What is wrong with the flags at a place, in words; none where no token begins there.
+// What is wrong with the flags at a place, in words; `None` where no token begins there.
 fn flag_words_at(
     alloc: Global,
     language: Language,
@@ -56,7 +56,7 @@ fn flag_words_at(
     }
 }
 
-// What is wrong with the name at a place, in words; none where no token begins there.
+// What is wrong with the name at a place, in words; `None` where no token begins there.
 fn name_words_at(alloc: Global, files: &Files, place: Place) -> Result<Option<Vec<u8>>, AllocError>
     ensures { IfOk result (λ found. option_map (λ words. words.items) found ≡ name_words_at files.now place) }
 {
@@ -77,7 +77,7 @@ fn include_words(alloc: Global, name: &[u8]) -> Result<Option<Vec<u8>>, AllocErr
     Ok(Some(Vec::from_slice(alloc, words)?))
 }
 
-// What is wrong with the include at a place, in words, where it asks for a whole path.
+// What is wrong with the include at a place, in words, where it looks up a whole path.
 fn include_words_at(
     alloc: Global,
     files: &Files,
@@ -91,8 +91,8 @@ fn include_words_at(
     }
 }
 
-/// What is wrong with a file by a refusal at a place, in words that name the flag or the name there, or tell where an include by a whole path is looked up;
-/// none where the refusal is for none of these.
+/// What is wrong with a file by a refusal at a place, in words that name the flag or the name there, or say where an include by a whole path is
+/// looked up; `None` where the refusal is for none of these.
 ///
 /// # Errors
 ///

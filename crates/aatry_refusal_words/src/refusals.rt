@@ -9,7 +9,7 @@ use aa_set_commands::{Refusal, RefusalKind};
 use aa_text_files::Files;
 use std::alloc::{AllocError, Global};
 
-/// What is wrong with a command by the kind of its refusal alone, in words. Those of a file are `aatry_report::words_of`.
+/// What is wrong with a command by the kind of its refusal alone, in words. The words for a file are those of `aatry_report::words_of`.
 pub fn kind_words(kind: RefusalKind) -> &'static str
     ensures { result.now ≡ kind_words kind }
 {
@@ -29,8 +29,8 @@ pub fn kind_words(kind: RefusalKind) -> &'static str
     }
 }
 
-/// What is wrong with a command that is refused, in words: where a file is, as `words_of` has them, by the language that it was read by; and else those of
-/// its kind.
+/// What is wrong with a command that is refused, in words: where a file is refused, like `words_of`, by the language that it was read by; and else
+/// those of its kind.
 ///
 /// # Errors
 ///

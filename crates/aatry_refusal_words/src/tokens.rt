@@ -8,7 +8,7 @@ ghost use Rattle.aatry_refusal_words.specs.TokensAt.{text_at, text_from};
 use aa_text_tokens::{Token, tokens};
 use std::alloc::{AllocError, Global};
 
-// The text of the token that begins at an offset, if one of them does.
+// The text of the token that begins at an offset, if one does.
 fn text_from<'a>(tokens: &[Token<'a>], at: usize) -> Option<&'a [u8]>
     ensures { option_map (λ text. text.now) result ≡ text_from (map seen tokens.now) at }
 {
@@ -22,7 +22,7 @@ fn text_from<'a>(tokens: &[Token<'a>], at: usize) -> Option<&'a [u8]>
     None
 }
 
-/// The text of the token of a text that begins at an offset of it, if one does; none of a text that can't be cut into tokens.
+/// The text of the token of a text that begins at an offset of it, if one does; `None` for a text that can't be cut into tokens.
 ///
 /// # Errors
 ///

@@ -9,7 +9,7 @@ use aa_profile_parsing::{Language, ProfileError, ProfileRefusal};
 use aa_text_files::{Files, Place};
 use std::alloc::{AllocError, Global};
 
-// The words that name what stands at the place of a refusal, if it has one and they name anything.
+// The words that name what is at the place of a refusal, if it has one and they name anything.
 fn naming_words_of(
     alloc: Global,
     language: Language,
@@ -25,9 +25,9 @@ fn naming_words_of(
     }
 }
 
-/// What is wrong with a file of policy that is refused by a language, in words, as `aatry_report::words_of` has them; but those on a flag or a name tell
-/// which: `files` has it at the place. What of that isn't UTF-8 is told as U+FFFD. Those on an include by a whole path that nothing has say that only what
-/// lies below the folder is read.
+/// What is wrong with a file of policy that is refused by a language, in words, like `aatry_report::words_of`; but those on a flag or a name say
+/// which: `files` has it at the place. What of that isn't UTF-8 becomes U+FFFD. Those on an include by a whole path that nothing has say that only
+/// what lies below the folder is read.
 ///
 /// # Errors
 ///

@@ -1,4 +1,4 @@
--- Where in its line a place stands.
+-- The column of a place in its line.
 use Rattle.std.specs.Prelude.{◌≡◌, ℕ, ◌+◌, ◌<◌, ◌≤◌, true, List, length, slice_index, take}
 use Rattle.aatry_report.specs.Characters.{begins_character, character_count}
 use Rattle.aatry_report.specs.Lines.{last_line}

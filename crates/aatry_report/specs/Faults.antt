@@ -1,4 +1,4 @@
--- What is told of a fault in a file of policy.
+-- The report on a fault in a file of policy.
 use Rattle.std.specs.Prelude.{ℕ, List, [], ◌∷◌, ◌++◌, codes, Option, None, Some}
 use Rattle.std.specs.Fmt.{decimal}
 use Rattle.serde_json.specs.Data.{Members}
@@ -14,11 +14,11 @@ use Rattle.aatry_report.specs.Shown.{shown}
 abbrev pub line_place_text : List ℕ → ℕ → ℕ → List ℕ
 line_place_text path line column = shown path ++ codes ":" ++ decimal line ++ codes ":" ++ decimal column ++ codes ": "
 
--- the same, of a place in a file's bytes
+-- the line and the column of a place in a file's bytes, after its path
 abbrev pub place_text : List ℕ → List ℕ → ℕ → List ℕ
 place_text path text at = line_place_text path (line_number text at) (column text at)
 
--- the words that tell the fault, with its number, and the line's end
+-- the words of the fault, with its number, and the line's end
 abbrev pub words_text : List ℕ → ℕ → List ℕ
 words_text words number = words ++ codes " (" ++ decimal number ++ codes ")" ++ line_feed ∷ []
 
@@ -30,12 +30,12 @@ with_words words number members = with_text (codes "words") words (with_number (
 abbrev pub marked_line : List ℕ → ℕ → List ℕ
 marked_line text at = shown (line_at text at) ++ line_feed ∷ [] ++ caret_line text at ++ line_feed ∷ []
 
--- what is told of a fault of this number at a place of a file, if it has one
+-- the report on a fault of this number at a place of a file, if it has one
 abbrev pub fault_lines : List ℕ → List ℕ → ℕ → Option ℕ → List ℕ → List ℕ
 fault_lines words path number None text = shown path ++ codes ": " ++ words_text words number
 fault_lines words path number (Some at) text = place_text path text at ++ words_text words number ++ marked_line text at
 
--- a record with a fault of this number at a place of a file, if it has one: by what the file is told, in words, and with the line of the place
+-- a record with a fault of this number at a place of a file, if it has one: the name of the file in reports, the words, and the line of the place
 abbrev pub with_fault : List ℕ → List ℕ → ℕ → Option ℕ → List ℕ → Members → Members
 with_fault words path number None text members = with_text (codes "file") path (with_words words number members)
 with_fault words path number (Some at) text members =

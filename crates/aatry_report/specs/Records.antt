@@ -1,4 +1,4 @@
--- What is found, as records: objects of JSON, one a line, by serde_json's own definitions of a value and its text.
+-- Findings as records: objects of JSON, one a line, by serde_json's own definitions of a value and its text.
 use Rattle.std.specs.Prelude.{ℕ, List, [], ◌∷◌, ◌++◌, codes, if◌then◌else◌, map}
 use Rattle.std.specs.Str.{is_utf8}
 use Rattle.hex.specs.Hex.{encode_lower}

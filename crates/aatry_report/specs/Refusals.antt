@@ -1,4 +1,4 @@
--- How a refusal is told: by its number and its name, or in words at its place in a file below a folder.
+-- How a refusal is reported: by its number and its name, or in words at its place in a file below a folder.
 use Rattle.std.specs.Prelude.{ℕ, List, [], ◌++◌, codes, Option, None, Some}
 use Rattle.std.specs.Fmt.{decimal}
 use Rattle.serde_json.specs.Data.{Members}
@@ -16,7 +16,7 @@ named_refusal number name = decimal number ++ codes " " ++ name
 abbrev pub with_named_refusal : ℕ → List ℕ → Members → Members
 with_named_refusal number name members = with_text (codes "refusal") name (with_number (codes "number") number members)
 
--- what is told of a refusal in words: at its place in one of the files below a folder, if it has one, and else by this
+-- the report on a refusal in words: at its place in one of the files below a folder, if it has one, and else by this name
 abbrev pub placed_refusal : List ℕ → List File → List ℕ → List ℕ → ℕ → Option Place → List ℕ
 placed_refusal words files base told_by number None = fault_lines words told_by number None []
 placed_refusal words files base told_by number (Some place) =

@@ -1,4 +1,4 @@
--- What is told of a file of policy that was taken.
+-- The report on a file of policy that was taken.
 use Rattle.std.specs.Prelude.{ℕ, Bool, true, false, List, [], ◌∷◌, ◌++◌, ◌+◌, ◌-◌, ◌^◌, ◌==◌, codes, count_by, flat_map, if◌then◌else◌, map, min}
 use Rattle.std.specs.Fmt.{decimal}
 use Rattle.serde_json.specs.Data.{Members}
@@ -32,7 +32,7 @@ abbrev pub kept_rules : List Profile → ℕ
 kept_rules [] = 0
 kept_rules (profile ∷ profiles) = (kept_in profile.rules + kept_in_children profile.children) + kept_rules profiles
 
--- in this mode no rule is asked
+-- in this mode no rule decides
 abbrev pub is_unconfined : Mode → Bool
 is_unconfined Enforce = false
 is_unconfined Complain = false
@@ -42,7 +42,7 @@ is_unconfined Unconfined = true
 abbrev pub unconfined_in : List Profile → ℕ
 unconfined_in profiles = count_by (λ profile. is_unconfined profile.mode) profiles
 
--- a number, as far as it is counted
+-- a number, up to the greatest that is counted
 abbrev pub counted : ℕ → ℕ
 counted n = min n (2 ^ 64 - 1)
 
@@ -50,7 +50,7 @@ counted n = min n (2 ^ 64 - 1)
 abbrev pub profile_names : List Profile → List (List ℕ)
 profile_names profiles = map (λ profile. profile.name) profiles
 
--- the same as a text, each behind a blank
+-- the names of profiles as a text, each after a blank
 abbrev pub names_text : List Profile → List ℕ
 names_text profiles = flat_map (λ profile. codes " " ++ shown profile.name) profiles
 
@@ -58,15 +58,15 @@ names_text profiles = flat_map (λ profile. codes " " ++ shown profile.name) pro
 abbrev pub count_words : ℕ → List ℕ → List ℕ
 count_words n words = codes "; " ++ decimal n ++ words
 
--- the same where there are any, and nothing else
+-- how many of something there are, in these words; nothing for 0
 abbrev pub count_text : ℕ → List ℕ → List ℕ
 count_text n words = if n == 0 then [] else count_words n words
 
--- what is told of how many profiles confine nothing, if any
+-- how many profiles confine nothing, if any, in words
 abbrev pub unconfined_text : ℕ → List ℕ
 unconfined_text n = count_text n (codes " of its profiles confine nothing")
 
--- what is told of how many rules decide nothing here, if any
+-- how many rules decide nothing here, if any, in words
 abbrev pub kept_text : ℕ → List ℕ
 kept_text n = count_text n (codes " of its rules decide nothing here")
 
@@ -74,15 +74,15 @@ kept_text n = count_text n (codes " of its rules decide nothing here")
 abbrev pub with_unconfined : ℕ → Members → Members
 with_unconfined n members = if n == 0 then members else with_number (codes "unconfined") n members
 
--- a record of a file that was taken, by its path: with the names of its profiles, how many of them confine nothing, if any, and how many of their rules
--- decide nothing here
+-- a record of a file that was taken, by its path: with the names of its profiles, how many of them confine nothing, if any, and how many of their
+-- rules decide nothing here
 abbrev pub taken_record : List ℕ → List Profile → Members
 taken_record path profiles =
     with_number (codes "ignored") (counted (kept_rules profiles)) (with_unconfined (unconfined_in profiles)
     (with_texts (codes "profiles") (profile_names profiles) (with_text (codes "file") path (record_of (codes "taken")))))
 
--- what is told of a file that was taken: `PATH: taken: NAME..`, how many of these profiles confine nothing, and how many rules decide nothing here, or its
--- record
+-- the report on a file that was taken: `PATH: taken: NAME..`, how many of these profiles confine nothing, and how many rules decide nothing here, or
+-- its record
 abbrev pub taken_line : Form → List ℕ → List Profile → List ℕ
 taken_line Lines path profiles = shown path ++ codes ": taken:" ++ names_text profiles ++ unconfined_text (unconfined_in profiles) ++ kept_text (counted (kept_rules profiles)) ++ line_feed ∷ []
 taken_line Records path profiles = record_line (taken_record path profiles)

@@ -27,7 +27,7 @@ words_of_grammar grammar.BadName = codes "no profile, child, hat or target can h
 words_of_grammar grammar.LeftOut = codes "AppArmor has this; here it isn't read"
 words_of_grammar grammar.Memory = codes "memory ran out"
 
--- the same of whatever a file is refused for
+-- what is wrong by whatever a file is refused for
 abbrev pub words_of : ProfileRefusal → List ℕ
 words_of (refusal.Pattern error) = pattern.words_of error
 words_of (refusal.Text error) = text.words_of error

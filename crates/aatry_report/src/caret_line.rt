@@ -1,4 +1,4 @@
-//! What stands below a line to point at a place in it.
+//! The line below another that points at a place in it.
 
 ghost use Rattle.std.specs.Prelude.{◌≡◌, ◌++◌, ◌+◌, ◌<◌, ◌≤◌, OnErr, OnOk, length, vec_capacity, vec_len};
 ghost use Rattle.aatry_report.specs.CaretLine.{blank_below, blanks_below, caret_line};
@@ -8,14 +8,14 @@ use crate::line::before_in_line;
 use crate::place::{begins_character, character_count};
 use std::alloc::AllocError;
 
-// What stands below a character so that what follows it stands below the next.
+// The byte below a character with which the next one is below what follows it.
 fn blank_below(byte: u8) -> u8
     ensures { result ≡ blank_below byte }
 {
     if byte == b'\t' { b'\t' } else { b' ' }
 }
 
-// Appends what stands below a text, for which there is room.
+// Appends the bytes below a text, for which there is room.
 fn push_blanks_below(text: &[u8], out: &mut Vec<u8>)
     requires { vec_len out.old + character_count text.now ≤ vec_capacity out.old }
     ensures items { out.new.items ≡ out.old.items ++ blanks_below text.now }
@@ -29,9 +29,9 @@ fn push_blanks_below(text: &[u8], out: &mut Vec<u8>)
     }
 }
 
-/// Appends what stands below the line that the byte at an offset stands in, to point at it: a tab for each tab before it in the line, a space
-/// for each other character before it, and `^`. So the caret stands right whatever a tab's width is, where each character is as wide as one
-/// column. Characters are counted as in `line_place`, and no line feed is appended.
+/// Appends the line that points at the byte at an offset from below its line: a tab for each tab before it in the line, a space for each other
+/// character before it, and `^`. So the caret is in the right column whatever a tab's width is, where each character is as wide as one column.
+/// Characters are counted as in `line_place`, and no line feed is appended.
 ///
 /// # Errors
 ///

@@ -1,4 +1,4 @@
-//! What is told of a fault in a file of policy.
+//! The report on a fault in a file of policy.
 
 ghost use Rattle.std.specs.Prelude.{◌≡◌, ◌++◌, [], None, OnOk, Some};
 ghost use Rattle.aatry_report.specs.Faults.{fault_lines, line_place_text, marked_line, with_fault, with_words, words_text};
@@ -13,11 +13,11 @@ use crate::record::Record;
 use crate::shown::push_shown;
 use std::alloc::{AllocError, Global};
 
-/// Puts a place in a file behind a text: `PATH:LINE:COLUMN: `. `path` is what the file is told by.
+/// Appends a place in a file to a text: `PATH:LINE:COLUMN: `. `path` is the name of the file in reports.
 ///
 /// # Errors
 ///
-/// Where memory runs out. A beginning may have been put then.
+/// Where memory runs out. A beginning may have been appended then.
 pub fn push_place(out: &mut Vec<u8>, path: &[u8], place: LinePlace) -> Result<(), AllocError>
     ensures { OnOk result (out.new.items ≡ out.old.items ++ line_place_text path.now place.line place.column) }
 {
@@ -28,7 +28,7 @@ pub fn push_place(out: &mut Vec<u8>, path: &[u8], place: LinePlace) -> Result<()
     Ok(())
 }
 
-// Puts the words that tell a fault behind a text, with its number.
+// Appends the words of a fault to a text, with its number.
 fn push_words(out: &mut Vec<u8>, words: &str, number: u8) -> Result<(), AllocError>
     ensures { OnOk result (out.new.items ≡ out.old.items ++ words_text words.now number) }
 {
@@ -38,7 +38,7 @@ fn push_words(out: &mut Vec<u8>, words: &str, number: u8) -> Result<(), AllocErr
     Ok(())
 }
 
-// Puts them into a record.
+// Puts the words of a fault into a record, with its number.
 fn put_words(alloc: Global, words: &str, number: u8, into: &mut Record) -> Result<(), AllocError>
     ensures { OnOk result (seen_record into.new ≡ with_words words.now number (seen_record into.old)) }
 {
@@ -46,7 +46,7 @@ fn put_words(alloc: Global, words: &str, number: u8, into: &mut Record) -> Resul
     into.put_text(alloc, "words", words.as_bytes())
 }
 
-// Puts the line of a place behind a text, and a line with a caret below the place.
+// Appends the line of a place to a text, and a line with a caret below the place.
 fn push_marked_line(out: &mut Vec<u8>, text: &[u8], at: usize) -> Result<(), AllocError>
     ensures { OnOk result (out.new.items ≡ out.old.items ++ marked_line text.now at) }
 {
@@ -57,12 +57,12 @@ fn push_marked_line(out: &mut Vec<u8>, text: &[u8], at: usize) -> Result<(), All
     Ok(())
 }
 
-/// Puts what is told of a fault that has no place behind a text: `PATH: WORDS (NUMBER)` on a line of its own. `path` is what the file is told by,
-/// `words` say what is wrong, and `number` is that of the refusal (`docs/commands.md`, "Refusals").
+/// Appends a fault that has no place to a text: `PATH: WORDS (NUMBER)` on a line of its own. `path` is the name of the file in reports, `words` say
+/// what is wrong, and `number` is that of the refusal (`docs/commands.md`, "Refusals").
 ///
 /// # Errors
 ///
-/// Where memory runs out. A beginning may have been put then.
+/// Where memory runs out. A beginning may have been appended then.
 pub fn push_fault(out: &mut Vec<u8>, path: &[u8], words: &str, number: u8) -> Result<(), AllocError>
     ensures { OnOk result (out.new.items ≡ out.old.items ++ fault_lines words.now path.now number None []) }
 {
@@ -71,12 +71,12 @@ pub fn push_fault(out: &mut Vec<u8>, path: &[u8], words: &str, number: u8) -> Re
     push_words(out, words, number)
 }
 
-/// Puts what is told of a fault at a place behind a text: `PATH:LINE:COLUMN: WORDS (NUMBER)`, the line that it stands in, and a line with a caret
-/// below the place. `text` is the file's bytes, and `at` says how many of them stand before the place; lines and columns are counted from 1.
+/// Appends a fault at a place to a text: `PATH:LINE:COLUMN: WORDS (NUMBER)`, its line, and a line with a caret below the place. `text` is the file's
+/// bytes, and `at` is how many of them come before the place; lines and columns are counted from 1.
 ///
 /// # Errors
 ///
-/// Where memory runs out. A beginning may have been put then.
+/// Where memory runs out. A beginning may have been appended then.
 pub fn push_fault_at(
     out: &mut Vec<u8>,
     path: &[u8],
@@ -92,7 +92,7 @@ pub fn push_fault_at(
     push_marked_line(out, text, at)
 }
 
-/// Puts a fault that has no place into a record: `file`, what the file is told by, `number` and `words`, as `push_fault` tells them.
+/// Puts a fault that has no place into a record: `file`, its name in reports, `number` and `words`, like in `push_fault`.
 ///
 /// # Errors
 ///
@@ -110,8 +110,8 @@ pub fn put_fault(
     into.put_text(alloc, "file", path)
 }
 
-/// Puts a fault at a place into a record: what `put_fault` puts, `line` and `column` of the place, and `text`, the line that it stands in. `at` says how
-/// many bytes of the file's `text` stand before the place.
+/// Puts a fault at a place into a record: what `put_fault` puts, `line` and `column` of the place, and `text`, its line. `at` is how many bytes of
+/// the file's `text` come before the place.
 ///
 /// # Errors
 ///

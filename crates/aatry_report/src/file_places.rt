@@ -23,8 +23,8 @@ fn without_slashes(path: &[u8]) -> &[u8]
     rest
 }
 
-/// The path that a file is told by: its name below the folder of policy, whose path is `base`. Slashes at the end of that aren't told twice. A name that
-/// is a whole path, by which another file includes this one, is told as it is.
+/// The path of a file in reports: its name below the folder of policy, whose path is `base`, without doubled slashes in between. A name that is a
+/// whole path, by which another file includes this one, is taken as it is.
 ///
 /// # Errors
 ///
@@ -41,7 +41,7 @@ pub fn path_below(alloc: Global, base: &[u8], name: &[u8]) -> Result<Vec<u8>, Al
     Ok(path)
 }
 
-/// Puts a place in a file into a record: `file`, what the file is told by, and `line` and `column`.
+/// Puts a place in a file into a record: `file`, its name in reports, and `line` and `column`.
 ///
 /// # Errors
 ///

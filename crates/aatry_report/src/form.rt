@@ -1,8 +1,8 @@
-//! The forms in which what is found is told.
+//! The forms of reports.
 
 use std::alloc::Global;
 
-/// The form in which what is found is told.
+/// The form of a report.
 #[derive(Clone, Copy)]
 pub enum Form {
     /// Lines for people at a terminal.
@@ -11,13 +11,13 @@ pub enum Form {
     Records,
 }
 
-/// How things are told: in which form, whether at length, and where memory for what is told comes from.
+/// How to report: in which form, verbosely or not, and from which allocator memory comes.
 #[derive(Clone, Copy)]
 pub struct Teller {
-    /// Where memory comes from.
+    /// The allocator.
     pub alloc: Global,
     /// The form.
     pub form: Form,
-    /// Whether lines tell at length: each file that is left out too, and not only how many there are. Records always do.
+    /// Whether lines are verbose: each file that is left out too, and not only how many there are. Records always are.
     pub verbose: bool,
 }

@@ -1,4 +1,4 @@
-//! Headings, which stand over lines for people alone.
+//! Headings, which only lines for people have.
 
 ghost use Rattle.std.specs.Prelude.{◌≡◌, ◌++◌, OnOk};
 ghost use Rattle.aatry_report.specs.Headings.{heading_line};
@@ -6,11 +6,11 @@ ghost use Rattle.aatry_report.specs.Headings.{heading_line};
 use crate::form::Form;
 use std::alloc::AllocError;
 
-/// Puts a heading behind a text, on a line of its own, where lines are told; over records there is none.
+/// Appends a heading to a text, on a line of its own, in lines; records have none.
 ///
 /// # Errors
 ///
-/// Where memory runs out. A beginning may have been put then.
+/// Where memory runs out. A beginning may have been appended then.
 pub fn push_heading(form: Form, words: &str, out: &mut Vec<u8>) -> Result<(), AllocError>
     ensures { OnOk result (out.new.items ≡ out.old.items ++ heading_line form words.now) }
 {

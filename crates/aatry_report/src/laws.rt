@@ -8,9 +8,9 @@ ghost use Rattle.aatry_report.specs.CaretLine.{caret_line};
 ghost use Rattle.aatry_report.specs.Columns.{IsBeginning, column};
 ghost use Rattle.aatry_report.specs.Lines.{line_at, line_number, lines_of, whole_line_at};
 
-/// A text's lines, with a line feed between each two, are the text. The line that a place stands in is the one of its number among them,
-/// counted from 1, and has no line feed. A line and a column tell one place alone of those where characters begin and the text's end. The
-/// caret is the byte of the place's column in what stands below the line, counted from 1.
+/// A text's lines, with a line feed between each two, are the text. The line of a place is the one of its number among them, counted from 1, and has
+/// no line feed. A line and a column give a single one of the places where characters begin and of the text's end. The caret is the byte of the
+/// place's column in the line below, counted from 1.
 pub fn what_places_are()
     ensures joined { (text : List ℕ) → join_with_byte line_feed (lines_of text) ≡ text }
     ensures line { (text : List ℕ) (at : ℕ) → slice_get (lines_of text) (line_number text at - 1) ≡ Some (whole_line_at text at) }

@@ -1,10 +1,10 @@
-//! What people at a terminal, or programs, are told of a file of policy: that it was taken, or what is wrong with it, where, and the line that it stands in.
+//! The report on a file of policy, for people at a terminal or for programs: that it was taken, or what is wrong with it, where, and the line there.
 //!
-//! A place is an offset in the text's bytes, from 0, as the readers of profiles' files tell where they refuse. People read it as the line and the column of
-//! that byte, with the line itself and what stands below it to point at the place. An offset at or beyond the text's end is the place behind its last byte.
-//! The text is any bytes, UTF-8 or not.
+//! A place is an offset in the text's bytes, from 0, as the readers of profiles' files return it where they refuse. People read it as the line and
+//! the column of that byte, with the line itself and a caret below it at the place. An offset at or past the text's end is the place after its last
+//! byte. The text is any bytes, UTF-8 or not.
 //!
-//! Programs are told records of JSON, one a line.
+//! Programs get records of JSON, one a line.
 #![tactic(auto)]
 
 mod caret_line;

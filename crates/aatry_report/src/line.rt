@@ -1,4 +1,4 @@
-//! The line that a place stands in.
+//! The line of a place.
 
 ghost use Rattle.std.specs.Prelude.{◌≡◌, ◌≤◌, drop, length, take};
 ghost use Rattle.std.specs.Str.Lines.{strip_carriage_return};
@@ -6,7 +6,7 @@ ghost use Rattle.aatry_report.specs.Lines.{first_line, last_line, line_at, whole
 
 use aa_bytes::{behind, length_while};
 
-// What stands before a place.
+// The text before a place.
 pub(crate) fn before(text: &[u8], at: usize) -> &[u8]
     ensures value { result.now ≡ take at text.now }
     ensures within { length result.now ≤ length text.now }
@@ -26,7 +26,7 @@ fn last_line_start(text: &[u8]) -> usize
     start
 }
 
-// What stands before a place in its line.
+// The part of its line before a place.
 pub(crate) fn before_in_line(text: &[u8], at: usize) -> &[u8]
     ensures { result.now ≡ last_line (take at text.now) }
 {
@@ -34,7 +34,7 @@ pub(crate) fn before_in_line(text: &[u8], at: usize) -> &[u8]
     &front[last_line_start(front)..]
 }
 
-// What stands before a text's first line feed.
+// The part of a text before its first line feed.
 fn first_line(text: &[u8]) -> &[u8]
     ensures { result.now ≡ first_line text.now }
 {
@@ -51,7 +51,7 @@ fn without_carriage_return(line: &[u8]) -> &[u8]
     }
 }
 
-// The line that a place stands in, with what may stand before its line feed.
+// The line of a place, with what may be before its line feed.
 fn whole_line_at(text: &[u8], at: usize) -> &[u8]
     ensures { result.now ≡ whole_line_at text.now at }
 {
@@ -61,8 +61,8 @@ fn whole_line_at(text: &[u8], at: usize) -> &[u8]
     &text[start..end]
 }
 
-/// The line that the byte at an offset stands in, from behind the line feed before it up to its own, which belongs to it. Its line feed is
-/// left out, and so is a carriage return directly before that or at the text's end. It takes no memory.
+/// The line of the byte at an offset, from after the line feed before it up to its own, which belongs to it. Its line feed is left out, and so is a
+/// carriage return directly before that or at the text's end. `O(n)` in the text's length. It takes no memory.
 pub fn line_at(text: &[u8], at: usize) -> &[u8]
     ensures { result.now ≡ line_at text.now at }
 {

@@ -1,4 +1,4 @@
-//! Numbers, as they are told.
+//! Numbers, as they are printed.
 
 ghost use Rattle.std.specs.Prelude.{◌≡◌, ◌++◌, OnOk};
 ghost use Rattle.std.specs.Fmt.{decimal};
@@ -6,11 +6,11 @@ ghost use Rattle.std.specs.Fmt.{decimal};
 use itoa::Buffer;
 use std::alloc::AllocError;
 
-/// Puts words, and a number in decimal behind them, behind a text.
+/// Appends words to a text, followed by a number in decimal.
 ///
 /// # Errors
 ///
-/// Where memory runs out. The words may have been put then.
+/// Where memory runs out. The words may have been appended then.
 pub fn push_number(out: &mut Vec<u8>, words: &str, number: usize) -> Result<(), AllocError>
     ensures { OnOk result (out.new.items ≡ out.old.items ++ words.now ++ decimal number) }
 {

@@ -9,7 +9,7 @@ ghost use Rattle.aatry_report.specs.Walks.{IsOf};
 use crate::line::{before, before_in_line};
 use aa_bytes::behind;
 
-/// A place in a text, as people tell it.
+/// A place in a text, by line and column.
 #[derive(Clone, Copy)]
 pub struct LinePlace {
     /// The number of its line, from 1.
@@ -40,8 +40,8 @@ pub(crate) fn character_count(text: &[u8]) -> usize
     text.iter().filter(|byte| begins_character(**byte)).count()
 }
 
-/// The line and the column of the byte at an offset. A line feed stands in the line that it ends. A character is counted at each byte that
-/// doesn't go on another's in UTF-8 (0x80 to 0xBF do), so that each text has columns; a tab is one character. It takes no memory.
+/// The line and the column of the byte at an offset. A line feed is in the line that it ends. A character is counted at each byte that doesn't go on
+/// another's in UTF-8 (0x80 to 0xBF do), so that each text has columns; a tab is one character. `O(n)` in the offset. It takes no memory.
 pub fn line_place(text: &[u8], at: usize) -> LinePlace
     ensures line { result.line ≡ line_number text.now at }
     ensures column { result.column ≡ column text.now at }
@@ -52,16 +52,16 @@ pub fn line_place(text: &[u8], at: usize) -> LinePlace
     }
 }
 
-/// A walk over a text: a place that it has come to, with its line and its column, from which a later place is found without counting anew.
+/// A walk over a text: a place that it has reached, with its line and its column, from which a later place is found without counting anew.
 #[derive(Clone, Copy)]
 pub struct Walk {
-    // How many bytes of the text stand before the place.
+    // How many bytes of the text come before the place.
     at: usize,
     // Its line and its column.
     place: LinePlace,
 }
 
-// What stands between two places of a text, of which the first isn't behind the other.
+// The text between two places, of which the first isn't after the other.
 fn between(text: &[u8], from: usize, to: usize) -> &[u8]
     requires { from ≤ to }
     ensures { take to text.now ≡ take from text.now ++ result.now }
@@ -69,7 +69,7 @@ fn between(text: &[u8], from: usize, to: usize) -> &[u8]
     before(behind(from, text), to - from)
 }
 
-// The line of a place, by that of a place that isn't behind it.
+// The line of a place, by that of a place that isn't after it.
 fn line_behind(text: &[u8], from: usize, known: usize, to: usize) -> usize
     requires order { from ≤ to }
     requires known { known ≡ line_number text.now from }
@@ -78,7 +78,7 @@ fn line_behind(text: &[u8], from: usize, known: usize, to: usize) -> usize
     known + line_feed_count(between(text, from, to))
 }
 
-// Its column in the same way: where a line feed stands between both, the characters of its own line are counted.
+// The column of a place, by that of a place that isn't after it: where a line feed is between both, the characters of its own line are counted.
 fn column_behind(text: &[u8], from: usize, known: usize, to: usize) -> usize
     requires order { from ≤ to }
     requires known { known ≡ column text.now from }
@@ -104,21 +104,21 @@ impl Walk {
         }
     }
 
-    /// How many bytes stand before the place that it has come to.
+    /// How many bytes come before the place that it has reached.
     pub fn at(self) -> usize
         ensures { result ≡ self.at }
     {
         self.at
     }
 
-    /// The line and the column of the place that it has come to.
+    /// The line and the column of the place that it has reached.
     pub fn place(self) -> LinePlace
         ensures { result ≡ self.place }
     {
         self.place
     }
 
-    // A walk that has come to a place, from this one, which isn't behind it.
+    // The walk that has reached a place, on from this one, which isn't after it.
     fn on(self, text: &[u8], at: usize) -> Walk
         requires order { self.at ≤ at }
         requires known { IsOf text.now self }
@@ -134,7 +134,7 @@ impl Walk {
         }
     }
 
-    /// The walk of this text that has come to the place of the byte at an offset: on from where it is, or from the text's beginning where that place
+    /// The walk of this text that has reached the place of the byte at an offset: on from where it is, or from the text's beginning where that place
     /// is before it. So places that come in the text's order take one walk over it. It takes no memory.
     pub fn to(self, text: &[u8], at: usize) -> Walk
         requires known { IsOf text.now self }

@@ -8,7 +8,7 @@ use crate::texts::{text_value, texts_value};
 use serde_json::{Map, Value};
 use std::alloc::{AllocError, Global};
 
-/// A record: an object of JSON. Its members stand in the order of their names.
+/// A record: an object of JSON. Its members are in the order of their names.
 pub struct Record {
     /// The members by their names; a name has one.
     members: Map<String, Value>,
@@ -28,7 +28,7 @@ impl Record {
     ghost use Rattle.aatry_report.specs.Records.{record_line, record_of, with_number, with_text, with_texts};
     ghost use Rattle.aatry_report.specs.SeenRecord.{seen_record};
 
-    /// A record with one member, `kind`, that says what the record tells.
+    /// A record with one member, `kind`, that says what the record is about.
     ///
     /// # Errors
     ///
@@ -75,7 +75,7 @@ impl Record {
         Ok(())
     }
 
-    /// Puts texts into the record by a name, in their order, each as `put_text` puts one.
+    /// Puts texts into the record by a name, in their order, each like `put_text`.
     ///
     /// # Errors
     ///
@@ -95,11 +95,11 @@ impl Record {
         Ok(())
     }
 
-    /// Puts the record behind a text, on a line of its own.
+    /// Appends the record to a text, on a line of its own.
     ///
     /// # Errors
     ///
-    /// Where memory runs out. Nothing has been put then.
+    /// Where memory runs out. Nothing has been appended then.
     pub fn push(self, alloc: Global, out: &mut Vec<u8>) -> Result<(), AllocError>
         ensures ok { OnOk result (out.new.items ≡ out.old.items ++ record_line (seen_record self)) }
         ensures err { OnErr result (out.new.items ≡ out.old.items) }

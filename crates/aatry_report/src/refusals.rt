@@ -1,4 +1,4 @@
-//! Refusals, as they are told.
+//! Refusals, as they are reported.
 
 ghost use Rattle.std.specs.Prelude.{◌≡◌, ◌++◌, [], OnOk, Some};
 ghost use Rattle.aatry_report.specs.Refusals.{named_refusal, placed_refusal, with_named_refusal};
@@ -11,11 +11,11 @@ use crate::record::Record;
 use aa_text_files::{Files, Place};
 use std::alloc::{AllocError, Global};
 
-/// Puts the number and the name of a refusal behind a text.
+/// Appends the number and the name of a refusal to a text.
 ///
 /// # Errors
 ///
-/// Where memory runs out. A beginning may have been put then.
+/// Where memory runs out. A beginning may have been appended then.
 pub fn push_named_refusal(out: &mut Vec<u8>, number: u8, name: &str) -> Result<(), AllocError>
     ensures { OnOk result (out.new.items ≡ out.old.items ++ named_refusal number name.now) }
 {
@@ -42,7 +42,7 @@ pub fn put_named_refusal(
     into.put_text(alloc, "refusal", name.as_bytes())
 }
 
-// Puts what is told of a refusal at a place behind a text, in these words.
+// Appends a refusal at a place to a text, in these words.
 fn push_at(
     alloc: Global,
     files: &Files,
@@ -65,12 +65,12 @@ fn push_at(
     )
 }
 
-/// Puts what is told of a refusal in words behind a text: as `push_fault_at` tells it where it has a place in one of the files that were taken from a
-/// folder, whose path is `base`; and else as `push_fault` does, by `told_by`.
+/// Appends a refusal in words to a text: like `push_fault_at` where it has a place in one of the files that were taken from a folder, whose path is
+/// `base`; and else like `push_fault`, by the name `told_by`.
 ///
 /// # Errors
 ///
-/// Where memory runs out. A beginning may have been put then.
+/// Where memory runs out. A beginning may have been appended then.
 pub fn push_placed_refusal(
     alloc: Global,
     files: &Files,

@@ -7,7 +7,7 @@ use std::alloc::AllocError;
 
 const DELETE: u8 = 0x7f;
 
-// Whether a terminal obeys a byte by itself: it is below the space, but for the tab, or that of the delete key.
+// Whether a byte is a control byte for a terminal: below the space, but not the tab, or that of the delete key.
 fn is_obeyed(byte: u8) -> bool
     ensures { result ≡ is_obeyed byte }
 {
@@ -32,12 +32,12 @@ fn shown_line_byte(byte: u8) -> u8
     }
 }
 
-/// Puts a text behind another as it is shown: each byte that a terminal obeys by itself as a question mark. What several
-/// bytes of UTF-8 write isn't looked at.
+/// Appends a text to another as it is shown: with a question mark in place of each byte that a terminal obeys by itself. What several bytes of UTF-8
+/// stand for isn't looked at.
 ///
 /// # Errors
 ///
-/// Where memory runs out. A beginning of the text may have been put then.
+/// Where memory runs out. A beginning of the text may have been appended then.
 pub fn push_shown(out: &mut Vec<u8>, text: &[u8]) -> Result<(), AllocError>
     ensures { OnOk result (out.new.items ≡ out.old.items ++ shown text.now) }
 {
@@ -47,11 +47,11 @@ pub fn push_shown(out: &mut Vec<u8>, text: &[u8]) -> Result<(), AllocError>
     Ok(())
 }
 
-/// Puts lines behind a text as they are shown: line feeds stay, and each other byte is as `push_shown` puts it.
+/// Appends lines to a text as they are shown: line feeds stay, and each other byte is shown as by `push_shown`.
 ///
 /// # Errors
 ///
-/// Where memory runs out. A beginning of the lines may have been put then.
+/// Where memory runs out. A beginning of the lines may have been appended then.
 pub fn push_shown_lines(out: &mut Vec<u8>, lines: &[u8]) -> Result<(), AllocError>
     ensures { OnOk result (out.new.items ≡ out.old.items ++ shown_lines lines.now) }
 {

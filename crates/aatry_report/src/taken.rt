@@ -1,4 +1,4 @@
-//! What is told of a file of policy that was taken.
+//! The report on a file of policy that was taken.
 
 ghost use Rattle.std.specs.Prelude.{◌≡◌, ◌+◌, ◌++◌, IfOk, OnOk, codes, map};
 ghost use Rattle.aatry_report.specs.Records.{with_number, with_texts};
@@ -34,7 +34,7 @@ fn kept_in(rules: &[Rule]) -> usize
     count
 }
 
-// How many rules of a profile's children and hats decide nothing here, added to a number as far as that goes.
+// How many rules of a profile's children and hats decide nothing here, added to a number, up to the greatest one.
 fn add_kept_in_children(kept: usize, children: &[Child]) -> usize
     ensures { result ≡ counted (kept + kept_in_children children.now) }
 {
@@ -47,8 +47,8 @@ fn add_kept_in_children(kept: usize, children: &[Child]) -> usize
     sum
 }
 
-// How many rules of these profiles, of their children and hats, are kept as they are written and decide nothing here; where they are more than
-// a `usize` counts, the most that it does.
+// How many rules of these profiles, of their children and hats, are kept as they are written and decide nothing here; where they are more than a
+// `usize` counts, the greatest one.
 fn kept_rules(profiles: &[Profile]) -> usize
     ensures { result ≡ counted (kept_rules profiles.now) }
 {
@@ -62,7 +62,7 @@ fn kept_rules(profiles: &[Profile]) -> usize
     sum
 }
 
-// Whether no rule is asked in a mode.
+// Whether no rule decides in a mode.
 fn is_unconfined(mode: Mode) -> bool
     ensures { result ≡ is_unconfined mode }
 {
@@ -82,7 +82,7 @@ fn unconfined_in(profiles: &[Profile]) -> usize
     count
 }
 
-// Puts the names of profiles behind a text, each behind a blank.
+// Appends the names of profiles to a text, each after a blank.
 fn push_names(out: &mut Vec<u8>, profiles: &[Profile]) -> Result<(), AllocError>
     ensures { OnOk result (out.new.items ≡ out.old.items ++ names_text profiles.now) }
 {
@@ -93,13 +93,13 @@ fn push_names(out: &mut Vec<u8>, profiles: &[Profile]) -> Result<(), AllocError>
     Ok(())
 }
 
-// What stands behind the number of profiles that confine nothing.
+// The words after the number of profiles that confine nothing.
 const UNCONFINED: &str = " of its profiles confine nothing";
 
-// What stands behind the number of rules that decide nothing here.
+// The words after the number of rules that decide nothing here.
 const KEPT: &str = " of its rules decide nothing here";
 
-// Puts how many of something there are behind a text, in these words.
+// Appends a count to a text, in these words.
 fn push_count_words(out: &mut Vec<u8>, count: usize, words: &str) -> Result<(), AllocError>
     ensures { OnOk result (out.new.items ≡ out.old.items ++ count_words count words.now) }
 {
@@ -108,7 +108,7 @@ fn push_count_words(out: &mut Vec<u8>, count: usize, words: &str) -> Result<(), 
     Ok(())
 }
 
-// Puts it there where there are any.
+// Appends a count to a text, in these words, if it isn't 0.
 fn push_count(out: &mut Vec<u8>, count: usize, words: &str) -> Result<(), AllocError>
     ensures { OnOk result (out.new.items ≡ out.old.items ++ count_text count words.now) }
 {
@@ -118,14 +118,14 @@ fn push_count(out: &mut Vec<u8>, count: usize, words: &str) -> Result<(), AllocE
     push_count_words(out, count, words)
 }
 
-// Puts how many profiles confine nothing behind a text, where there are any.
+// Appends how many profiles confine nothing to a text, where there are any.
 fn push_unconfined(out: &mut Vec<u8>, unconfined: usize) -> Result<(), AllocError>
     ensures { OnOk result (out.new.items ≡ out.old.items ++ unconfined_text unconfined) }
 {
     push_count(out, unconfined, UNCONFINED)
 }
 
-// Puts how many rules decide nothing here behind a text, where there are any.
+// Appends how many rules decide nothing here to a text, where there are any.
 fn push_kept(out: &mut Vec<u8>, kept: usize) -> Result<(), AllocError>
     ensures { OnOk result (out.new.items ≡ out.old.items ++ kept_text kept) }
 {
@@ -164,7 +164,7 @@ fn put_profiles(alloc: Global, profiles: &[Profile], into: &mut Record) -> Resul
     into.put_number(alloc, "ignored", kept_rules(profiles))
 }
 
-// Puts the line of a file that was taken behind a text.
+// Appends the line of a file that was taken to a text.
 fn push_line(path: &[u8], profiles: &[Profile], out: &mut Vec<u8>) -> Result<(), AllocError>
     ensures { OnOk result (out.new.items ≡ out.old.items ++ taken_line form.Lines path.now profiles.now) }
 {
@@ -187,13 +187,13 @@ fn taken_record(alloc: Global, path: &[u8], profiles: &[Profile]) -> Result<Reco
     Ok(made)
 }
 
-/// Puts what is told of a file that was taken behind a text. As a line: `PATH: taken: NAME..`, with the names of its profiles, and behind that how many
-/// of them confine nothing (`docs/policy.md`, "The mode unconfined") and how many of their rules decide nothing here ("Rules that are kept"), where there
-/// are any. As a record: of the kind `taken`, with the members `file`, `profiles` and `ignored`, and `unconfined` where profiles confine nothing.
+/// Appends a file that was taken to a text. As a line: `PATH: taken: NAME..`, with the names of its profiles, followed by how many of them confine
+/// nothing (`docs/policy.md`, "The mode unconfined") and how many of their rules decide nothing here ("Rules that are kept"), where there are any.
+/// As a record: of the kind `taken`, with the members `file`, `profiles` and `ignored`, and `unconfined` where profiles confine nothing.
 ///
 /// # Errors
 ///
-/// Where memory runs out. A beginning may have been put then.
+/// Where memory runs out. A beginning may have been appended then.
 pub fn push_taken(
     teller: Teller,
     path: &[u8],

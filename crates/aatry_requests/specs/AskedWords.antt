@@ -1,4 +1,4 @@
--- The questions that words ask.
+-- The questions of words.
 use Rattle.std.specs.Prelude.{◌≡◌, ℕ, if◌then◌else◌, List, [], ◌∷◌, Option, None, Some, Result, codes, is_some}
 use Rattle.std.specs.Result.{result_ok}
 use Rattle.aa_set_commands.specs.Question.{Question}
@@ -7,7 +7,7 @@ use Rattle.aatry_log_lines.specs.Lines.{Asks, Disconnected, Interpreted, Learnin
 use Rattle.aatry_questions.specs.Faults.{kind_of}
 use Rattle.aatry_questions.specs.Meant.{question_meant}
 
--- the question that a line of a log asks, if it asks one
+-- the question of a line of a log, if it makes one
 abbrev pub asked_in : Told → Option Question
 asked_in (Asks question) = Some question
 asked_in OtherRequest = None
@@ -17,26 +17,26 @@ asked_in NoRequest = None
 asked_in Unreadable = None
 asked_in Interpreted = None
 
--- The question that words ask, if they ask one: a word alone as a line of a log, and more of them, which are at least three, as what they mean.
+-- The question of words, if they make one: a word alone as a line of a log, and several, which are at least three, as what they mean.
 abbrev pub asked_by : List (List ℕ) → Option Question
 asked_by (line ∷ []) = asked_in (told_by line)
 asked_by words = result_ok (question_meant words)
 
--- the words ask no question
+-- the words make no question
 abbrev pub AskNothing : List (List ℕ) → Type 0
 AskNothing words = asked_by words ≡ None
 
--- The words of a question, by who asks and the words from which who asks is left out: behind a kind of questions, if one stands ahead of them, and else
--- behind `file`, so that they are the access, the owner's word and the path of the question for a file. No word is both, since no letters of a kind make
--- an access (`what_words_ask_without_who_asks`).
+-- The words of a question, by the asker and the words without it: after a kind of questions, if they begin with one, and else after `file`, so that
+-- they are the access, the owner's word and the path of the question for a file. No word is both, since no letters of a kind make an access
+-- (`what_words_ask_without_who_asks`).
 abbrev pub asking_words : List ℕ → List (List ℕ) → List (List ℕ)
 asking_words who [] = codes "file" ∷ who ∷ []
 asking_words who (first ∷ words) = if is_some (kind_of first) then first ∷ who ∷ words else codes "file" ∷ who ∷ first ∷ words
 
--- those of the same question of nobody in particular
+-- the words of the same question of no one in particular
 abbrev pub letting_words : List (List ℕ) → List (List ℕ)
 letting_words words = asking_words (codes "unconfined") words
 
--- that question
+-- the question of no one in particular
 abbrev pub letting_question : List (List ℕ) → Result Question Refusal
 letting_question words = question_meant (letting_words words)

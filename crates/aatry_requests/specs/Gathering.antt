@@ -7,8 +7,8 @@ use Rattle.aatry_requests.specs.Tallies.{Tally, counted_with, one_more}
 use Rattle.aatry_requests.specs.declared.requests.Requests.{Requests}
 use Rattle.aatry_requests.specs.declared.sources.Source.{Source}
 
--- The questions, each once and with how often it came, and how many lines there were; of these, how many ask a question, tell of a request that none
--- asks, or can't be read.
+-- The questions, each once and with how often it occurred, and how many lines there were; of these, how many make a question, hold a request that
+-- none asks, or can't be read.
 pub record Gathered : Type 0 where
   pub tallies : List Tally
   pub lines : ℕ
@@ -16,7 +16,7 @@ pub record Gathered : Type 0 where
   pub others : ℕ
   pub unreadable : ℕ
 
--- those of the code
+-- what is gathered, of the code
 abbrev pub seen_requests : Requests → Gathered
 seen_requests r = record { tallies = r.tallies; lines = r.lines; asked = r.asked; others = r.others; unreadable = r.unreadable }
 
@@ -28,7 +28,7 @@ nothing = record { tallies = []; lines = 0; asked = 0; others = 0; unreadable = 
 abbrev pub with_line : Gathered → Gathered
 with_line so_far = record so_far { lines = one_more so_far.lines }
 
--- one more that tells of a request that no question asks
+-- one more that holds a request that no question asks
 abbrev pub with_other : Gathered → Gathered
 with_other so_far = record (with_line so_far) { others = one_more so_far.others }
 
@@ -36,7 +36,7 @@ with_other so_far = record (with_line so_far) { others = one_more so_far.others 
 abbrev pub with_unreadable : Gathered → Gathered
 with_unreadable so_far = record (with_line so_far) { unreadable = one_more so_far.unreadable }
 
--- one more line that tells of this, at a time, where that is known
+-- one more line that holds this, at a time, where that is known
 abbrev pub with_told_at : Gathered → Told → Option ℕ → Gathered
 with_told_at so_far (Asks question) time =
     record (with_line so_far) { tallies = counted_with question time so_far.tallies; asked = one_more so_far.asked }
@@ -47,7 +47,7 @@ with_told_at so_far NoRequest time = with_line so_far
 with_told_at so_far Unreadable time = with_unreadable so_far
 with_told_at so_far Interpreted time = with_unreadable so_far
 
--- the same where no time is looked at
+-- one more line that holds this, where no time is looked at
 abbrev pub with_told : Gathered → Told → Gathered
 with_told so_far told = with_told_at so_far told None
 

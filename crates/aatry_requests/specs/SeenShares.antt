@@ -2,6 +2,6 @@
 use Rattle.aatry_requests.specs.Counts.{Share}
 use Rattle.aatry_requests.specs.declared.counts.Share.{Share as CodeShare}
 
--- that of the code
+-- a share of the code
 abbrev pub seen_share : CodeShare → Share
 seen_share share = record { number = share.number; words = share.words.now; name = share.name.now }

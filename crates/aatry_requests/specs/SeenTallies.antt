@@ -1,4 +1,4 @@
--- Tallies of the code as the definitions see them: each stands under the text that its question is told by.
+-- Tallies of the code as the definitions see them: each has the text by which its question is printed as its key.
 use Rattle.std.specs.Prelude.{◌≡◌, ℕ, List, map, Vec}
 use Rattle.std.specs.Borrow.{Bor}
 use Rattle.std.specs.List.{All}
@@ -11,7 +11,7 @@ use Rattle.aatry_requests.specs.declared.tallies.Tally.{Tally as CodeTally}
 abbrev pub seen_tally : CodeTally → Tally
 seen_tally tally = record { question = seen_logged tally.question; times = tally.times; span = tally.span }
 
--- tallies that are lent
+-- tallies that are borrowed
 abbrev pub seen_all : List (Bor CodeTally) → List Tally
 seen_all tallies = map (λ tally. seen_tally tally.now) tallies
 

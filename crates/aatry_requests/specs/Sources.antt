@@ -15,21 +15,21 @@ abbrev pub told_read : Result Question Refusal → Told
 told_read (Ok question) = Asks question
 told_read (Err refusal) = Unreadable
 
--- what words tell, as the question that they mean: none tell of no request
+-- what words hold, as the question that they mean: no words hold no request
 abbrev pub told_meant : List (List ℕ) → Told
 told_meant [] = NoRequest
 told_meant (word ∷ words) = told_read (question_meant (word ∷ words))
 
--- what the words of a line tell, by the bytes that they write: a line of blanks alone tells of no request
+-- what the words of a line hold, by the bytes that they stand for: a line of blanks alone holds no request
 abbrev pub told_by_words : Option (List (List ℕ)) → Told
 told_by_words None = Unreadable
 told_by_words (Some words) = told_meant (map unescaped words)
 
--- what a line of a log tells of, which can't be read where it is longer than a line may be
+-- what a line of a log holds, which can't be read where it is longer than a line may be
 abbrev pub told_in_log : List ℕ → Told
 told_in_log line = if nat_lt longest_line (length line) then Unreadable else told_by line
 
--- what a line of a source tells of
+-- what a line of a source holds
 abbrev pub told_in : Source → List ℕ → Told
 told_in Log line = told_in_log line
 told_in Questions line = told_by_words (words_of line)

@@ -1,4 +1,4 @@
--- When something came first and last.
+-- When something occurred first and last.
 use Rattle.std.specs.Prelude.{ℕ, Option, None, Some, max, min}
 use Rattle.aatry_requests.specs.declared.spans.Span.{Span}
 

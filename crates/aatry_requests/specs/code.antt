@@ -1,3 +1,3 @@
--- What is about the code: the entries under which tallies are kept.
+-- Definitions about the code: the entries of a table of tallies.
 pub mod Entries
 pub mod TallyAt

@@ -1,4 +1,4 @@
-//! The questions that words ask.
+//! The questions of words.
 
 ghost use Rattle.std.specs.Prelude.{◌≡◌, ◌∷◌, ◌++◌, ℕ, List, None, Ok, IfOk, IfSome, IsNone, OnOk, map, option_map, string_bytes};
 ghost use Rattle.std.specs.Result.{result_ok};
@@ -13,7 +13,11 @@ use aatry_log_lines::{LogLine, LoggedQuestion, told_by};
 use aatry_questions::{kind_of, question_meant};
 use std::alloc::{AllocError, Global};
 
-/// Appends the bytes of words to others, none of them copied.
+/// Appends the bytes of words to `out`, none of them copied.
+///
+/// # Errors
+///
+/// Where memory runs out.
 pub fn push_words<'a>(words: &'a [String], out: &mut Vec<&'a [u8]>) -> Result<(), AllocError>
     ensures { OnOk result (map (λ word. word.now) out.new.items ≡ map (λ word. word.now) out.old.items ++ map string_bytes words.now) }
 {
@@ -23,7 +27,7 @@ pub fn push_words<'a>(words: &'a [String], out: &mut Vec<&'a [u8]>) -> Result<()
     Ok(())
 }
 
-// The question that some words mean, behind some that stand before them; none where they mean none.
+// The question that some words mean, after the words before them; `None` where they mean none.
 fn question_by<'a>(
     alloc: Global,
     before: &[&'a [u8]],
@@ -44,7 +48,7 @@ fn question_by<'a>(
     }
 }
 
-// The question that a line of a log asks, if it asks one.
+// The question of a line of a log, if it makes one.
 fn asked_in_line(alloc: Global, line: &[u8]) -> Result<Option<LoggedQuestion<'_>>, AllocError>
     ensures { IfOk result (λ found. option_map seen_logged found ≡ asked_in (told_by line.now)) }
 {
@@ -68,8 +72,8 @@ fn asked_in_words<'a>(
     }
 }
 
-/// The question that some words ask: a word alone is a line of a log (`aatry_log_lines::told_by`), and more of them ask what they mean
-/// (`aatry_questions::question_meant`). None where they ask none.
+/// The question of some words: a word alone is a line of a log (`aatry_log_lines::told_by`), and several words make the question that they mean
+/// (`aatry_questions::question_meant`). `None` where they make none.
 ///
 /// # Errors
 ///
@@ -86,7 +90,7 @@ pub fn asked_by<'a>(
     asked_in_words(alloc, words)
 }
 
-// The kind of the question that words ask from which who asks is left out, and those of its words that stand behind who asks.
+// The kind of the question of words without the asker, and those of its words that would follow the asker.
 pub fn cut_kind<'a>(words: &'a [String]) -> (&'a [u8], &'a [String])
     ensures { (who : List ℕ) → asking_words who (map string_bytes words.now) ≡ result.0.now ∷ who ∷ map string_bytes result.1.now }
 {
@@ -102,9 +106,9 @@ pub fn cut_kind<'a>(words: &'a [String]) -> (&'a [u8], &'a [String])
     }
 }
 
-/// The question that words mean from which who asks is left out, asked by nobody in particular, which is the word `unconfined`: behind a kind of questions
-/// those that stand behind who asks, and without one the access, the owner's word and the path of a question for a file
-/// (`aatry_questions::question_meant`). None where they mean none.
+/// The question that words without the asker mean, with the word `unconfined` as the asker, which is no one in particular: after a kind of questions
+/// those words that would follow the asker, and without one the access, the owner's word and the path of a question for a file
+/// (`aatry_questions::question_meant`). `None` where they mean none.
 ///
 /// # Errors
 ///

@@ -1,4 +1,4 @@
-//! How many lines, requests and questions a log has, as what sums up tells them.
+//! How many lines, requests and questions a log has, for the summary.
 
 ghost use Rattle.std.specs.Prelude.{◌≡◌, ◌++◌, IfOk, OnOk};
 ghost use Rattle.aatry_report.specs.SeenRecord.{seen_record};
@@ -13,7 +13,7 @@ use aatry_report::{Form, Record, Teller};
 use itoa::Buffer;
 use std::alloc::{AllocError, Global};
 
-/// Appends a number in decimal, and what stands behind it, to a text.
+/// Appends a number in decimal, and the text that follows it, to a text.
 ///
 /// # Errors
 ///
@@ -27,7 +27,7 @@ pub fn push_number(out: &mut Vec<u8>, number: u64, behind: &[u8]) -> Result<(), 
     Ok(())
 }
 
-/// Appends how often something came to a text: `once`, or the number and `times`.
+/// Appends how often something occurred to a text: `once`, or the number and `times`.
 ///
 /// # Errors
 ///
@@ -41,7 +41,7 @@ pub fn push_times(out: &mut Vec<u8>, times: u64) -> Result<(), AllocError>
     push_number(out, times, b" times")
 }
 
-// Appends two numbers, each with what stands behind it, to a text.
+// Appends two numbers, each with the text that follows it, to a text.
 fn push_numbers(
     out: &mut Vec<u8>,
     first: u64,
@@ -60,21 +60,21 @@ fn push_numbers(
 pub struct Share<'a> {
     /// How many they are.
     pub number: usize,
-    /// What they are, as the words that stand behind the number in a line.
+    /// The words that follow the number in a line.
     pub words: &'a [u8],
-    /// The same, as the name of the number in a record.
+    /// The name of the number in a record.
     pub name: &'a str,
 }
 
 impl<'a> Requests<'a> {
-    // Appends how many lines there were, and how many of them ask a question, to a text.
+    // Appends how many lines there were, and how many of them make a question, to a text.
     fn push_lines(&self, out: &mut Vec<u8>) -> Result<(), AllocError>
         ensures { OnOk result (out.new.items ≡ out.old.items ++ lines_text (seen_requests self.now)) }
     {
         push_numbers(out, self.lines, b" lines, ", self.asked, b" requests, ")
     }
 
-    // Appends how many different questions these are, and how many of them some are, to a text.
+    // Appends how many different questions these are, and how many of them belong to the share, to a text.
     fn push_questions(&self, share: Share<'_>, out: &mut Vec<u8>) -> Result<(), AllocError>
         ensures { OnOk result (out.new.items ≡ out.old.items ++ questions_text (seen_requests self.now) (seen_share share.entry)) }
     {
@@ -100,7 +100,7 @@ impl<'a> Requests<'a> {
         )
     }
 
-    /// Appends what sums up to a text, as `push_summary` does in a line, without the end of that line.
+    /// Appends the counts to a text, like `push_summary` in a line, without the end of that line.
     ///
     /// # Errors
     ///
@@ -113,7 +113,7 @@ impl<'a> Requests<'a> {
         self.push_rest(out)
     }
 
-    // Appends the line that sums up to a text.
+    // Appends the summary to a text as a line.
     fn push_line(&self, share: Share<'_>, out: &mut Vec<u8>) -> Result<(), AllocError>
         ensures { OnOk result (out.new.items ≡ out.old.items ++ summary_text Lines (seen_requests self.now) (seen_share share.entry)) }
     {
@@ -122,7 +122,7 @@ impl<'a> Requests<'a> {
         Ok(())
     }
 
-    // Puts how many lines there were into a record, as `lines`, and how many of them ask a question, as `requests`.
+    // Puts how many lines there were into a record, as `lines`, and how many of them make a question, as `requests`.
     fn put_lines(&self, alloc: Global, into: &mut Record) -> Result<(), AllocError>
         ensures { OnOk result (seen_record into.new ≡ with_lines (seen_requests self.now) (seen_record into.old)) }
     {
@@ -130,7 +130,7 @@ impl<'a> Requests<'a> {
         into.put_number(alloc, "requests", self.asked as usize)
     }
 
-    // Puts how many different questions these are into a record, as `questions`, and how many of them some are.
+    // Puts how many different questions these are into a record, as `questions`, and how many of them belong to the share.
     fn put_questions(
         &self,
         alloc: Global,
@@ -151,7 +151,7 @@ impl<'a> Requests<'a> {
         into.put_number(alloc, "unreadable", self.unreadable as usize)
     }
 
-    /// The record that sums up, as `push_summary` appends it.
+    /// The summary as a record, as `push_summary` appends it.
     ///
     /// # Errors
     ///
@@ -166,9 +166,9 @@ impl<'a> Requests<'a> {
         Ok(made)
     }
 
-    /// Appends what sums up to a text: how many lines there were, how many requests they told of, how many questions these are and how many of these some
-    /// are, how many requests are of a kind that no question asks, and how many lines can't be read. That is one line, or a record of the kind `summary`
-    /// with the numbers `lines`, `requests`, `questions`, the one by the name of those, `others` and `unreadable`.
+    /// Appends the summary to a text: how many lines there were, how many requests they had, how many questions these are and how many of these
+    /// belong to the share, how many requests are of a kind that no question asks, and how many lines can't be read. That is one line, or a record
+    /// of the kind `summary` with the numbers `lines`, `requests`, `questions`, the one by the share's name, `others` and `unreadable`.
     ///
     /// # Errors
     ///

@@ -1,4 +1,5 @@
-//! What holds of questions, of their words and of the texts that they are told by, as laws over the definitions that the calls are proved to follow.
+//! What holds of questions, of their words and of the texts by which they are printed, as laws over the definitions that the calls are proved to
+//! follow.
 
 ghost use Rattle.std.specs.Prelude.{◌≡◌, ◌∷◌, [], ℕ, IsSome, List, Ok, Some, codes, true};
 ghost use Rattle.aa_set_commands.specs.Question.{Question};
@@ -12,16 +13,17 @@ ghost use Rattle.aatry_requests.specs.Texts.{is_same};
 
 use aatry_questions::how_names_read_back;
 
-/// Questions that are told by the same text are one question. So what is tallied as one came as one, and nothing that differs is counted together.
+/// Questions that are printed by the same text are one question. So what is tallied as one occurred as one, and nothing that differs is counted
+/// together.
 pub fn what_texts_tell()
     ensures { (question other : Question) → CanBeAsked question → CanBeAsked other → is_same question other ≡ true → question ≡ other }
 {
     how_names_read_back();
 }
 
-/// Words from which who asks is left out, put together with a name, ask the question of that name which they ask of nobody in particular. Behind a kind of
-/// questions they are those of its words that stand behind who asks. An access is no kind, so the access, the owner's word and the path of a question for a
-/// file ask that question with and without `file` ahead of them.
+/// Words without the asker, put together with a name, make the question of that name that they make of no one in particular. After a kind of
+/// questions they are those of its words that follow the asker. An access is no kind, so the access, the owner's word and the path of a question for
+/// a file make that question with and without `file` before them.
 pub fn what_words_ask_without_who_asks()
     ensures any_name { (who : List ℕ) (words : List (List ℕ)) (question : Question)
         → letting_question words ≡ Ok question

@@ -1,4 +1,4 @@
-//! The requests of a kernel's log, or of a file of questions, each with how often it came; and the questions that words ask.
+//! The requests of a kernel's log, or of a file of questions, each with how often it occurred; and the questions of words.
 #![tactic(auto)]
 
 mod asked_words;

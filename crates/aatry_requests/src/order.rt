@@ -1,4 +1,4 @@
-//! The order in which questions are told that came differently often.
+//! The order in which questions are printed that occurred differently often.
 
 ghost use Rattle.std.specs.Prelude.{◌≡◌, ◌++◌, IfOk, OnOk, slice_get};
 ghost use Rattle.aatry_requests.specs.Order.{IsMostAskedFirst};
@@ -8,7 +8,7 @@ ghost use Rattle.aatry_requests.specs.code.TallyAt.{tally_at};
 use crate::tallies::{Tallies, Tally};
 use std::alloc::{AllocError, Global};
 
-// Appends the tally at a place to others, if there is one.
+// Appends the tally at an index to `all`, if there is one.
 fn push_at<'t, 'a>(
     tallies: &'t Tallies<'a>,
     place: usize,
@@ -33,8 +33,8 @@ fn all_of<'t, 'a>(alloc: Global, tallies: &'t Tallies<'a>) -> Result<Vec<&'t Tal
     Ok(all)
 }
 
-/// The tallies of some questions, those first that came most often; of those that came equally often, that first which stands first. It takes time in
-/// their number and its logarithm, and memory for a reference to each.
+/// The tallies of some questions, the most frequent first; of those that occurred equally often, in their order. `O(n log n)` in their number. It
+/// allocates a reference to each.
 ///
 /// # Errors
 ///

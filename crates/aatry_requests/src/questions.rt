@@ -1,4 +1,4 @@
-//! Questions by who asks, and by what they ask of rules.
+//! Questions by their askers, and by the requests that they make of rules.
 
 ghost use Rattle.std.specs.Prelude.{◌≡◌};
 ghost use Rattle.aa_profile_data.specs.SeenRequests.{request_of};
@@ -9,7 +9,7 @@ ghost use Rattle.aatry_requests.specs.Questions.{rule_request};
 use aa_profile_data::{Perms, Request};
 use aa_set_commands::Question;
 
-/// What a question asks of rules: of the start of a program, whether it may be started at all.
+/// The request that a question makes of rules: for the start of a program, whether it may be started at all.
 pub fn rule_request<'a>(question: &Question<'a>) -> Request<'a>
     ensures { request_of result ≡ rule_request (seen_question question.entry.now) }
 {
@@ -37,7 +37,7 @@ pub fn rule_request<'a>(question: &Question<'a>) -> Request<'a>
     }
 }
 
-/// Who asks.
+/// The asker of a question.
 pub fn who_asks<'a>(question: &Question<'a>) -> &'a [u8]
     ensures { result.now ≡ who_asks (seen_question question.entry.now) }
 {

@@ -16,20 +16,20 @@ use std::alloc::{AllocError, Global};
 /// The requests of a log, or of a file of questions.
 #[derive(Drop)]
 pub struct Requests<'a> {
-    /// The questions, each once, in the order in which they first came.
+    /// The questions, each once, in the order in which they first occurred.
     pub tallies: Tallies<'a>,
     /// How many lines there were.
     pub lines: u64,
-    /// How many of them ask a question.
+    /// How many of them make a question.
     pub asked: u64,
-    /// How many tell of a request of a kind that no question asks.
+    /// How many hold a request of a kind that no question asks.
     pub others: u64,
     /// How many can't be read.
     pub unreadable: u64,
 }
 
 impl<'a> Requests<'a> {
-    /// None so far. It takes no memory.
+    /// No requests so far. It takes no memory.
     pub fn new(alloc: Global) -> Requests<'a>
         ensures { seen_requests result ≡ nothing }
     {
@@ -42,7 +42,7 @@ impl<'a> Requests<'a> {
         }
     }
 
-    /// Counts a line that tells of this, which came at a time in seconds since 1970 where that is known.
+    /// Counts a line that holds this, logged at a time in seconds since 1970 where that is known.
     ///
     /// # Errors
     ///
@@ -72,7 +72,7 @@ impl<'a> Requests<'a> {
         Ok(())
     }
 
-    // One more line of a source.
+    // Takes one more line of a source.
     fn take(&mut self, alloc: Global, source: Source, line: &'a [u8]) -> Result<(), AllocError>
         ensures { OnOk result (seen_requests self.new ≡ with_told (seen_requests self.old) (told_in source line.now)) }
     {
@@ -80,7 +80,7 @@ impl<'a> Requests<'a> {
         self.note(alloc, told, None)
     }
 
-    // What no line feed ends: the last line, or nothing.
+    // Takes what follows the last line feed: the last line, or nothing.
     fn take_last(&mut self, alloc: Global, source: Source, rest: &'a [u8]) -> Result<(), AllocError>
         requires { list_any is_line_feed rest.now ≡ false }
         ensures { OnOk result (seen_requests self.new ≡ with_lines source (seen_requests self.old) (lines rest.now)) }
@@ -92,8 +92,8 @@ impl<'a> Requests<'a> {
     }
 }
 
-/// The requests of a text's lines. Questions borrow their names from the text, but those that it has in hexadecimal; each is kept once, with the
-/// bytes that it is told by.
+/// The requests of a text's lines. Questions borrow their names from the text, except those that it has in hexadecimal; each is kept once, with the
+/// bytes by which it is printed.
 ///
 /// # Errors
 ///

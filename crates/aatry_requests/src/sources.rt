@@ -1,4 +1,4 @@
-//! Where requests are read from.
+//! From where requests are read.
 
 ghost use Rattle.std.specs.Prelude.{◌≡◌, ◌++◌, ◌∷◌, [], IfOk, OnOk, Some, map};
 ghost use Rattle.std.specs.List.{list_any};
@@ -12,13 +12,13 @@ use aatry_log_lines::{LogLine, LoggedQuestion, told_by};
 use aatry_questions::{has_backslash, how_names_read_back, question_meant, unescaped};
 use std::alloc::{AllocError, Global};
 
-/// What the lines are from which requests are read.
+/// The kind of lines from which requests are read.
 #[derive(Clone, Copy)]
 pub enum Source {
     /// Lines of a kernel's log, as audit.log or syslog has them. One of more than 65,536 bytes can't be read.
     Log,
-    /// Questions, each in the words that mean one (`aatry_questions::question_meant`), as those after `ask` in a command do, by the bytes that these write
-    /// (`aatry_questions::unescaped`).
+    /// Questions, each in the words that mean one (`aatry_questions::question_meant`), like those after `ask` in a command, by the bytes that these
+    /// stand for (`aatry_questions::unescaped`).
     Questions,
 }
 
@@ -36,7 +36,7 @@ fn have_backslash(words: &[&[u8]]) -> bool
     false
 }
 
-// What words tell of.
+// What words hold.
 fn told_meant<'a>(words: &[&'a [u8]]) -> LogLine<'a>
     ensures { seen_line result ≡ told_meant (map (λ word. word.now) words.now) }
 {
@@ -49,7 +49,7 @@ fn told_meant<'a>(words: &[&'a [u8]]) -> LogLine<'a>
     }
 }
 
-// Appends the bytes that a word writes to others.
+// Appends the bytes that a word stands for to `read`.
 fn push_unescaped(alloc: Global, word: &[u8], read: &mut Vec<Vec<u8>>) -> Result<(), AllocError>
     ensures { OnOk result (map (λ word. word.items) read.new.items ≡ map (λ word. word.items) read.old.items ++ unescaped word.now ∷ []) }
 {
@@ -58,7 +58,7 @@ fn push_unescaped(alloc: Global, word: &[u8], read: &mut Vec<Vec<u8>>) -> Result
     Ok(())
 }
 
-// The bytes that words write.
+// The bytes that words stand for.
 fn unescaped_words(alloc: Global, words: &[&[u8]]) -> Result<Vec<Vec<u8>>, AllocError>
     ensures { IfOk result (λ read. map (λ word. word.items) read.items ≡ map unescaped (map (λ word. word.now) words.now)) }
 {
@@ -71,7 +71,7 @@ fn unescaped_words(alloc: Global, words: &[&[u8]]) -> Result<Vec<Vec<u8>>, Alloc
     Ok(read)
 }
 
-// The same words, none of them copied.
+// The words, borrowed.
 fn borrowed(alloc: Global, words: &[Vec<u8>]) -> Result<Vec<&[u8]>, AllocError>
     ensures { IfOk result (λ lent. map (λ word. word.now) lent.items ≡ map (λ word. word.items) words.now) }
 {
@@ -84,7 +84,7 @@ fn borrowed(alloc: Global, words: &[Vec<u8>]) -> Result<Vec<&[u8]>, AllocError>
     Ok(lent)
 }
 
-// What words tell of, by the bytes that they write.
+// What words hold, by the bytes that they stand for.
 fn told_unescaped<'a>(alloc: Global, words: &[&[u8]]) -> Result<LogLine<'a>, AllocError>
     ensures { IfOk result (λ told. seen_line told ≡ told_meant (map unescaped (map (λ word. word.now) words.now))) }
 {
@@ -93,7 +93,7 @@ fn told_unescaped<'a>(alloc: Global, words: &[&[u8]]) -> Result<LogLine<'a>, All
     told_meant(&lent).into_owned(alloc)
 }
 
-// The same, where nothing is copied of words that stand as they are.
+// What words hold, by the bytes that they stand for; nothing is copied of words without a backslash.
 fn told_by_words<'a>(alloc: Global, words: &[&'a [u8]]) -> Result<LogLine<'a>, AllocError>
     ensures { IfOk result (λ told. seen_line told ≡ told_by_words (Some (map (λ word. word.now) words.now))) }
 {
@@ -104,7 +104,7 @@ fn told_by_words<'a>(alloc: Global, words: &[&'a [u8]]) -> Result<LogLine<'a>, A
     Ok(told_meant(words))
 }
 
-// What a line of a file of questions tells of.
+// What a line of a file of questions holds.
 fn told_by_question(alloc: Global, line: &[u8]) -> Result<LogLine<'_>, AllocError>
     ensures { IfOk result (λ told. seen_line told ≡ told_by_words (words_of line.now)) }
 {
@@ -114,7 +114,7 @@ fn told_by_question(alloc: Global, line: &[u8]) -> Result<LogLine<'_>, AllocErro
     }
 }
 
-/// What a line of a log tells of, which can't be read where it has more than 65,536 bytes.
+/// What a line of a log holds, which can't be read where it has more than 65,536 bytes.
 ///
 /// # Errors
 ///
@@ -128,8 +128,8 @@ pub fn told_in_log(alloc: Global, line: &[u8]) -> Result<LogLine<'_>, AllocError
     told_by(alloc, line)
 }
 
-/// What a line of a source tells of. Memory is taken for names alone that a line of a log has in hexadecimal, and for words of a question that don't
-/// stand as they are.
+/// What a line of a source holds. It takes memory only for names that a line of a log has in hexadecimal, and for words of a question that have a
+/// backslash.
 ///
 /// # Errors
 ///

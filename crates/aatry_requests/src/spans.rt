@@ -1,9 +1,9 @@
-//! When something came first and last.
+//! When something occurred first and last.
 
 ghost use Rattle.std.specs.Prelude.{◌≡◌};
 ghost use Rattle.aatry_requests.specs.Spans.{widened};
 
-/// When something came first and last, in seconds since 1970.
+/// When something occurred first and last, in seconds since 1970.
 #[derive(Clone, Copy)]
 pub struct Span {
     /// The first time.
@@ -12,7 +12,7 @@ pub struct Span {
     pub last: u64,
 }
 
-/// A span with one time more, where that is known. There is none before the first.
+/// A span with one time more, where that is known; `None` before the first.
 pub fn widened(time: Option<u64>, span: Option<Span>) -> Option<Span>
     ensures { result ≡ widened time span }
 {

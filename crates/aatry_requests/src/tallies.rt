@@ -1,4 +1,4 @@
-//! Questions, how often each came, and when.
+//! Questions, how often each occurred, and when.
 
 ghost use Rattle.std.specs.Prelude.{◌≡◌, [], OnErr, OnOk, length, option_map, slice_get};
 ghost use Rattle.aatry_log_lines.specs.LoggedQuestions.{seen_logged};
@@ -13,25 +13,25 @@ use indexmap::IndexMap;
 use std::alloc::{AllocError, Global};
 use std::marker::Model;
 
-/// A question, how often it came, and when.
+/// A question, how often it occurred, and when.
 #[derive(Drop)]
 pub struct Tally<'a> {
     /// The question.
     pub question: LoggedQuestion<'a>,
-    /// How often it came, as far as the number goes.
+    /// How often it occurred, up to the greatest number.
     pub times: u64,
-    /// When it came first and last, of the times that are known, if one is.
+    /// When it occurred first and last, of the times that are known, if one is.
     pub span: Option<Span>,
 }
 
-// How often something came, and when first and last.
+// How often something occurred, and when first and last.
 #[derive(Clone, Copy)]
 pub struct Count {
     pub times: u64,
     pub span: Option<Span>,
 }
 
-/// Questions in the order in which they first came, each once.
+/// Questions in the order in which they first occurred, each once.
 #[derive(Drop)]
 pub struct Tallies<'a> {
     by_text: IndexMap<Vec<u8>, Tally<'a>>,
@@ -49,7 +49,7 @@ impl<'a> Model for Tallies<'a> {
     ghost invariant = { λ t. AreUnderTexts t.by_text.entries };
 }
 
-// How often and when the question of a text came, with once more.
+// How often and when the question of a text occurred, with once more.
 fn count_with(by_text: &IndexMap<Vec<u8>, Tally<'_>>, text: &[u8], time: Option<u64>) -> Count
     ensures { result ≡ count_under time text.now by_text.now.entries }
 {
@@ -75,7 +75,7 @@ impl<'a> Tallies<'a> {
         }
     }
 
-    /// Counts a question that came, at a time in seconds since 1970 where that is known.
+    /// Counts a question that occurred, at a time in seconds since 1970 where that is known.
     ///
     /// # Errors
     ///
@@ -108,7 +108,7 @@ impl<'a> Tallies<'a> {
         self.by_text.len()
     }
 
-    /// The tally at a place, from 0, if there are as many. It takes no memory.
+    /// The tally at an index, from 0, if there are as many. It takes no memory.
     pub fn get(&self, place: usize) -> Option<&Tally<'a>>
         ensures { option_map (λ tally. seen_tally tally.now) result ≡ slice_get self.now place }
     {

@@ -1,4 +1,4 @@
-//! How questions are told.
+//! How questions are printed.
 
 ghost use Rattle.std.specs.Prelude.{◌≡◌, ◌++◌, OnOk, codes, option_map};
 ghost use Rattle.aa_profile_data.specs.Access.{letters_of};
@@ -12,7 +12,7 @@ use aa_set_commands::Question;
 use aatry_questions::push_name as push_quoted_name;
 use std::alloc::AllocError;
 
-// Puts a word and the name of who asks behind a text.
+// Appends a word and the name of the asker to a text.
 fn push_asker(out: &mut Vec<u8>, word: &[u8], who: &[u8]) -> Result<(), AllocError>
     ensures { OnOk result (out.new.items ≡ out.old.items ++ word.now ++ name_text who.now) }
 {
@@ -20,7 +20,7 @@ fn push_asker(out: &mut Vec<u8>, word: &[u8], who: &[u8]) -> Result<(), AllocErr
     push_quoted_name(out, who)
 }
 
-// Puts whether a file is owned, and its path, behind a text.
+// Appends whether a file is owned, and its path, to a text.
 fn push_file(out: &mut Vec<u8>, owned: bool, path: &[u8]) -> Result<(), AllocError>
     ensures { OnOk result (out.new.items ≡ out.old.items ++ owned_text owned ++ name_text path.now) }
 {
@@ -29,7 +29,7 @@ fn push_file(out: &mut Vec<u8>, owned: bool, path: &[u8]) -> Result<(), AllocErr
     push_quoted_name(out, path)
 }
 
-// Puts the letters that a file is asked for behind a text.
+// Appends the letters that are asked for of a file to a text.
 fn push_needs(out: &mut Vec<u8>, needs: Perms) -> Result<(), AllocError>
     ensures { OnOk result (out.new.items ≡ out.old.items ++ codes " " ++ letters_of needs.0) }
 {
@@ -37,7 +37,7 @@ fn push_needs(out: &mut Vec<u8>, needs: Perms) -> Result<(), AllocError>
     needs.push_letters(out)
 }
 
-// Puts a name of a table behind a text.
+// Appends a name of a table to a text.
 fn push_name(out: &mut Vec<u8>, name: Option<&str>) -> Result<(), AllocError>
     ensures { OnOk result (out.new.items ≡ out.old.items ++ codes " " ++ name_or_none (option_map (λ name. name.now) name.entry)) }
 {
@@ -48,11 +48,11 @@ fn push_name(out: &mut Vec<u8>, name: Option<&str>) -> Result<(), AllocError>
     Ok(())
 }
 
-/// Puts a question behind a text, in `ask`'s words, with names as `aatry_questions::push_name` writes them.
+/// Appends a question to a text, in `ask`'s words, with names as `aatry_questions::push_name` writes them.
 ///
 /// # Errors
 ///
-/// Where memory runs out. A part of it may have been put then.
+/// Where memory runs out. A part of it may have been appended then.
 pub fn push_question(out: &mut Vec<u8>, question: &Question<'_>) -> Result<(), AllocError>
     ensures { OnOk result (out.new.items ≡ out.old.items ++ question_text (seen_question question.entry.now)) }
 {

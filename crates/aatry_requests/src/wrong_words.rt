@@ -1,4 +1,4 @@
-//! What is wrong with words that ask no question.
+//! What is wrong with words that make no question.
 
 ghost use Rattle.std.specs.Prelude.{◌≡◌, ◌++◌, IfOk, IsSome, map, option_map, string_bytes};
 ghost use Rattle.aatry_log_lines.specs.Lines.{told_by};
@@ -15,7 +15,7 @@ use aatry_questions::{
 };
 use std::alloc::{AllocError, Global};
 
-// What is wrong with a line of a log, if it asks no question.
+// What is wrong with a line of a log, if it makes no question.
 fn line_fault(alloc: Global, line: &[u8]) -> Result<Option<WordFault<'static>>, AllocError>
     ensures { IfOk result (λ found. option_map seen_fault found ≡ line_fault (told_by line.now)) }
 {
@@ -28,7 +28,7 @@ fn line_fault(alloc: Global, line: &[u8]) -> Result<Option<WordFault<'static>>, 
     Ok(Some(WordFault { wrong, word: b"" }))
 }
 
-// What was found, with the known word that is nearest to the wrong one.
+// The fault that was found, if there is one, with the known word that is nearest to the wrong one.
 fn told_fault(
     alloc: Global,
     found: Option<WordFault<'_>>,
@@ -41,7 +41,7 @@ fn told_fault(
     }
 }
 
-// What is wrong with words that stand behind others, by what they mean.
+// What is wrong with words that follow others, by what they mean.
 fn fault_behind(
     alloc: Global,
     before: &[&[u8]],
@@ -63,8 +63,7 @@ fn fault_alone(alloc: Global, line: &[u8]) -> Result<Option<QuestionFault>, Allo
     told_fault(alloc, found)
 }
 
-/// What is wrong with words, with the known word that is nearest to the wrong one, if they ask no question (`asked_by`): nothing is told of words that ask
-/// one.
+/// What is wrong with words, with the known word that is nearest to the wrong one; `None` where they make a question (`asked_by`).
 ///
 /// # Errors
 ///
@@ -80,7 +79,7 @@ pub fn words_fault(alloc: Global, words: &[String]) -> Result<Option<QuestionFau
     fault_behind(alloc, &[], words)
 }
 
-// What is wrong with a word that may be meant for a kind of questions, where it is none.
+// What is wrong with a word that is no kind of questions, where it may stand for one.
 fn spelling_fault(alloc: Global, word: &[u8]) -> Result<Option<WordFault<'_>>, AllocError>
     ensures { IfOk result (λ found. option_map seen_fault found ≡ spelling_fault word.now) }
 {
@@ -93,7 +92,7 @@ fn spelling_fault(alloc: Global, word: &[u8]) -> Result<Option<WordFault<'_>>, A
     Ok(None)
 }
 
-// The same of the first of some words.
+// What is wrong with the first of some words, where it is no kind of questions and may stand for one.
 fn first_word_fault(alloc: Global, words: &[String]) -> Result<Option<WordFault<'_>>, AllocError>
     ensures { IfOk result (λ found. option_map seen_fault found ≡ first_word_fault (map string_bytes words.now)) }
 {
@@ -103,7 +102,7 @@ fn first_word_fault(alloc: Global, words: &[String]) -> Result<Option<WordFault<
     }
 }
 
-// What is wrong with the question's own words, from which who asks is left out.
+// What is wrong with the question's own words, without the asker.
 fn asking_fault(alloc: Global, words: &[String]) -> Result<Option<QuestionFault>, AllocError>
     ensures { IfOk result (TellsAny (meant_fault (letting_words (map string_bytes words.now)))) }
 {
@@ -112,7 +111,7 @@ fn asking_fault(alloc: Global, words: &[String]) -> Result<Option<QuestionFault>
     fault_behind(alloc, &before, behind)
 }
 
-// What is wrong with the first word, where it may be meant for a kind of questions, and else with the question's own words.
+// What is wrong with the first word, where it may stand for a kind of questions, and else with the question's own words.
 fn spelling_or_asking_fault(
     alloc: Global,
     words: &[String],
@@ -125,8 +124,8 @@ fn spelling_or_asking_fault(
     }
 }
 
-/// The same of words from which who asks is left out (`letting_question`): where the first is no kind of questions, and may be meant for one
-/// (`aatry_questions::misspells_kind`), that is what is wrong.
+/// What is wrong with words without the asker, with the known word that is nearest to the wrong one; `None` where they make a question
+/// (`letting_question`). Where the first word is no kind of questions, and may stand for one (`aatry_questions::misspells_kind`), the fault is that.
 ///
 /// # Errors
 ///

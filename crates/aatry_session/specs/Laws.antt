@@ -1,4 +1,4 @@
--- What holds of a session whatever it is told.
+-- What holds of a session whatever its lines.
 use Rattle.std.specs.Prelude.{◌≡◌, ℕ, ◌+◌, Bool, true, nat_le, List, length, Some, Ok}
 use Rattle.aa_history.specs.Machine.{MarksItsSets}
 use Rattle.aa_profile_parsing.specs.declared.language.Language.{Language}
@@ -23,37 +23,37 @@ pub record IsInStep (kept : Kept) : Type 0 where
 abbrev pub BeginsInStep : Type 0
 BeginsInStep = (language : Language) (force_complain : Bool) → IsInStep (begun language force_complain)
 
--- and any line leaves it in step
+-- any line leaves it in step
 abbrev pub StaysInStep : Type 0
 StaysInStep =
     (files : List File) (base words : List ℕ) (kept : Kept) (line : List ℕ) (flag : Bool)
     → IsInStep kept
     → IsInStep (turn_outcome files base words kept line flag).kept
 
--- also one that memory ran out for
+-- a line at which memory ran out leaves it in step
 abbrev pub LeavesInStep : Type 0
 LeavesInStep = (files : List File) (before after : Kept) (line : List ℕ) → IsLeft files before after line → IsInStep before → IsInStep after
 
--- so does adding the profiles of a file
+-- adding the profiles of a file leaves it in step
 abbrev pub AddsInStep : Type 0
 AddsInStep =
     (files : List File) (base : List ℕ) (kept : Kept) (name : List ℕ) (flag : Bool)
     → IsInStep kept
     → IsInStep (add_outcome files base kept name flag).kept
 
--- also where memory ran out for it
+-- so does adding where memory ran out
 abbrev pub AddLeavesInStep : Type 0
 AddLeavesInStep = (files : List File) (before after : Kept) (name : List ℕ) → IsLeftAdding files before after name → IsInStep before → IsInStep after
 
--- so does the change of a profile by how its file is loaded
+-- the change of a profile by how its file is loaded leaves it in step
 abbrev pub SwitchesInStep : Type 0
 SwitchesInStep = (loading : Loading) (kept : Kept) (name : List ℕ) → IsInStep kept → IsInStep (kept_switched loading kept name)
 
--- and so does forgetting the places
+-- forgetting the places leaves it in step
 abbrev pub ForgetsInStep : Type 0
 ForgetsInStep = (kept : Kept) → IsInStep kept → IsInStep (unplaced kept)
 
--- adding the profiles of a file comes to what a line comes to that says so
+-- adding the profiles of a file does what a line does that says so
 abbrev pub AddsAsLinesDo : Type 0
 AddsAsLinesDo =
     (files : List File) (base words : List ℕ) (kept : Kept) (name line : List ℕ) (flag : Bool)

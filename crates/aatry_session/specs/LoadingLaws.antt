@@ -1,4 +1,4 @@
--- What the law on the loading speaks of: how far back a session goes.
+-- Definitions for the law on the loading: how far back a session goes.
 use Rattle.std.specs.Prelude.{◌≡◌, ℕ, ◌+◌, ◌≤◌, Bool, true, List, [], ◌∷◌, ◌++◌, length, take, Ok}
 use Rattle.std.specs.List.{AllByRecursion}
 use Rattle.aa_decide_ready.specs.Entries.{Loaded}
@@ -20,14 +20,14 @@ use Rattle.aatry_session_told.specs.Sayings.{Command, saying_in}
 abbrev pub AreFrom : ℕ → List (List ℕ × ℕ) → Type 0
 AreFrom number marks = AllByRecursion (λ mark. number ≤ mark.1) marks
 
--- A machine stands behind another, as it was loaded: its first sets are those of that one, up to the set that was loaded; it stands at none before this;
--- and no mark is of one before it.
+-- A machine comes after another, as it was loaded: its first sets are those of that one, up to the set that was loaded; its set now is none before
+-- this; and no mark is of one before it.
 pub record StandsBehind (loaded machine : Machine (List Loaded)) : Type 0 where
   pub sets : take (length loaded.earlier + 1) (all_sets machine) ≡ loaded.earlier ++ loaded.now ∷ []
   pub within : length loaded.earlier ≤ length machine.earlier
   pub marked : AreFrom (length loaded.earlier) machine.marks
 
--- A session's history leaves out what a machine had done, as it was loaded, and the session's machine stands behind that one.
+-- A session's history leaves out what a machine had done, as it was loaded, and the session's machine comes after that one.
 abbrev pub IsBehind : Machine (List Loaded) → Kept → Type 0
 IsBehind loaded kept = (kept.loaded ≡ length loaded.earlier) × StandsBehind loaded kept.managed.machine
 
@@ -39,7 +39,7 @@ IsUnmarked kept = kept.managed.machine.marks ≡ []
 abbrev pub BeginsUnmarked : Type 0
 BeginsUnmarked = (language : Language) (force_complain : Bool) → IsUnmarked (begun language force_complain)
 
--- and so it is where files are added, and their profiles changed by how they are loaded
+-- a session stays unmarked where files are added, and their profiles changed by how they are loaded
 abbrev pub AddsUnmarked : Type 0
 AddsUnmarked =
     (files : List File) (base : List ℕ) (kept : Kept) (name : List ℕ) (flag : Bool)
@@ -49,11 +49,11 @@ AddsUnmarked =
 abbrev pub SwitchesUnmarked : Type 0
 SwitchesUnmarked = (loading : Loading) (kept : Kept) (name : List ℕ) → IsUnmarked kept → IsUnmarked (kept_switched loading kept name)
 
--- A history that begins where an unmarked session stands has its machine behind that.
+-- A history that begins with an unmarked session has its machine after that one.
 abbrev pub BeginsBehind : Type 0
 BeginsBehind = (kept : Kept) → IsUnmarked kept → IsBehind kept.managed.machine (history_begun kept)
 
--- And whatever the session is told, it stays so,
+-- a session that comes after a loaded machine still does after any line
 abbrev pub StaysBehind : Type 0
 StaysBehind =
     (loaded : Machine (List Loaded)) (files : List File) (base words : List ℕ) (kept : Kept) (line : List ℕ) (flag : Bool)
@@ -61,7 +61,7 @@ StaysBehind =
     → IsBehind loaded kept
     → IsBehind loaded (turn_outcome files base words kept line flag).kept
 
--- also by what memory ran out for,
+-- it still does where memory ran out at a line
 abbrev pub LeavesBehind : Type 0
 LeavesBehind =
     (loaded : Machine (List Loaded)) (files : List File) (before after : Kept) (line : List ℕ)
@@ -70,7 +70,7 @@ LeavesBehind =
     → IsBehind loaded before
     → IsBehind loaded after
 
--- and where a file is added by its name,
+-- it still does after a file was added by its name
 abbrev pub AddsBehind : Type 0
 AddsBehind =
     (loaded : Machine (List Loaded)) (files : List File) (base : List ℕ) (kept : Kept) (name : List ℕ) (flag : Bool)
@@ -78,7 +78,7 @@ AddsBehind =
     → IsBehind loaded kept
     → IsBehind loaded (add_outcome files base kept name flag).kept
 
--- also where memory ran out for it,
+-- it still does where memory ran out for adding a file
 abbrev pub AddLeavesBehind : Type 0
 AddLeavesBehind =
     (loaded : Machine (List Loaded)) (files : List File) (before after : Kept) (name : List ℕ)
@@ -87,7 +87,7 @@ AddLeavesBehind =
     → IsBehind loaded before
     → IsBehind loaded after
 
--- and a profile changed by how its file is loaded,
+-- it still does after the change of a profile by how its file is loaded
 abbrev pub SwitchesBehind : Type 0
 SwitchesBehind =
     (loaded : Machine (List Loaded)) (loading : Loading) (kept : Kept) (name : List ℕ)
@@ -95,11 +95,11 @@ SwitchesBehind =
     → IsBehind loaded kept
     → IsBehind loaded (kept_switched loading kept name)
 
--- and places forgotten.
+-- it still does after places were forgotten
 abbrev pub ForgetsBehind : Type 0
 ForgetsBehind = (loaded : Machine (List Loaded)) (kept : Kept) → IsBehind loaded kept → IsBehind loaded (unplaced kept)
 
--- As many changes back as can be undone lead to the very policy set of a machine, and to those before it.
+-- Undoing as many changes as can be undone leads to the very policy set of a machine, and to those before it.
 abbrev pub UndoesTo : Machine (List Loaded) → Kept → Type 0
 UndoesTo loaded kept =
     (back : Managed)
@@ -107,11 +107,11 @@ UndoesTo loaded kept =
     × (back.machine.now ≡ loaded.now)
     × (back.machine.earlier ≡ loaded.earlier)
 
--- so it is of the one that was loaded
+-- it leads to the policy set that was loaded
 abbrev pub UndoesToTheLoaded : Type 0
 UndoesToTheLoaded = (loaded : Machine (List Loaded)) (kept : Kept) → IsBehind loaded kept → UndoesTo loaded kept
 
--- A line that undoes more is refused, as the machine refuses one that undoes more than all, and leaves all as it was.
+-- A line that undoes more is refused, as the machine refuses one that undoes more than all, and leaves everything as it was.
 abbrev pub RefusesToUndoMore : Type 0
 RefusesToUndoMore =
     (files : List File) (base words : List ℕ) (kept : Kept) (line : List ℕ) (flag : Bool)

@@ -17,7 +17,7 @@ change_origins language files (Add file) = origins_at language files file
 change_origins language files (Replace file) = origins_at language files file
 change_origins language files _ = []
 
--- where the profile of a name was read: by a change that loaded one of the name, or else as it was known before it
+-- where the profile of a name was read: by a change that loaded one of the name, or else what was known before it
 abbrev pub newer_origin : List ℕ → Option Origin → List Origin → Option Origin
 newer_origin name before own = elim (origin_in name own) [ None ↦ before | Some origin ↦ Some origin ]
 
@@ -25,10 +25,10 @@ newer_origin name before own = elim (origin_in name own) [ None ↦ before | Som
 abbrev pub last_origin : List ℕ → List (List Origin) → Option Origin
 last_origin name origins = fold (newer_origin name) None origins
 
--- the same, where the first so many changes are done: the others tell nothing
+-- where the profile of a name was read, where the first so many changes are done: the others don't count
 abbrev pub origin_among : List ℕ → ℕ → List (List Origin) → Option Origin
 origin_among name done origins = last_origin name (take done origins)
 
--- an origin of which the file alone is known any more
+-- an origin of which only the file is still known
 abbrev pub unplaced_origin : Origin → Origin
 unplaced_origin origin = record origin { places = None }

@@ -1,4 +1,4 @@
--- What the law on places speaks of: where the profiles of a session were read, as far as it knows.
+-- Definitions for the law on places: where the profiles of a session were read, as far as it knows.
 use Rattle.std.specs.Prelude.{◌≡◌, ℕ, Bool, List, IfSome, Option, None, Some, slice_get}
 use Rattle.aa_decide_ready.specs.Entries.{Loaded}
 use Rattle.aa_decide_ready.specs.Named.{entry_named}
@@ -14,12 +14,12 @@ use Rattle.aatry_folder.specs.declared.loading.Loading.{Loading}
 use Rattle.aatry_session.specs.Switching.{kept_switched}
 use Rattle.aatry_session.specs.Turns.{IsLeft, IsLeftAdding, Kept, add_outcome, begun, origin_of, turn_outcome, unplaced}
 
--- A profile has an origin, and where its places are known still, its file spells the profile at these by a language.
+-- A profile has an origin, and where its places are known still, its file has the profile at these by a language.
 abbrev pub IsKnown : Language → List File → Profile → Option Origin → Type 0
 IsKnown language files profile None = ⊥
 IsKnown language files profile (Some origin) = IfSome origin.places (λ _. IsReadAt language files profile origin)
 
--- so it is of each profile of each policy set, by the changes that led to that set
+-- this holds of each profile of each policy set, by the changes that led to that set
 abbrev pub KnowsEach : Language → List File → List (List Loaded) → List (List Origin) → Type 0
 KnowsEach language files sets origins =
     (done : ℕ) (set : List Loaded) (name : List ℕ) (entry : Loaded)
@@ -31,11 +31,11 @@ KnowsEach language files sets origins =
 abbrev pub Knows : List File → Kept → Type 0
 Knows files kept = KnowsEach kept.managed.settings.language files (all_sets kept.managed.machine) kept.origins
 
--- a session begins so
+-- a session knows this at its beginning
 abbrev pub BeginsKnowing : Type 0
 BeginsKnowing = (files : List File) (language : Language) (force_complain : Bool) → Knows files (begun language force_complain)
 
--- and any line leaves it so
+-- any line leaves it so
 abbrev pub StaysKnowing : Type 0
 StaysKnowing =
     (files : List File) (base words : List ℕ) (kept : Kept) (line : List ℕ) (flag : Bool)
@@ -43,12 +43,12 @@ StaysKnowing =
     → Knows files kept
     → Knows files (turn_outcome files base words kept line flag).kept
 
--- also one that memory ran out for
+-- a line at which memory ran out leaves it so
 abbrev pub LeavesKnowing : Type 0
 LeavesKnowing =
     (files : List File) (before after : Kept) (line : List ℕ) → IsLeft files before after line → IsInStep before → Knows files before → Knows files after
 
--- so does adding the profiles of a file
+-- adding the profiles of a file leaves it so
 abbrev pub AddsKnowing : Type 0
 AddsKnowing =
     (files : List File) (base : List ℕ) (kept : Kept) (name : List ℕ) (flag : Bool)
@@ -56,12 +56,12 @@ AddsKnowing =
     → Knows files kept
     → Knows files (add_outcome files base kept name flag).kept
 
--- and the change of a profile by how its file is loaded
+-- the change of a profile by how its file is loaded leaves it so
 abbrev pub SwitchesKnowing : Type 0
 SwitchesKnowing =
     (files : List File) (loading : Loading) (kept : Kept) (name : List ℕ) → IsInStep kept → Knows files kept → Knows files (kept_switched loading kept name)
 
--- also where memory ran out for adding one
+-- adding where memory ran out leaves it so
 abbrev pub AddLeavesKnowing : Type 0
 AddLeavesKnowing =
     (files : List File) (before after : Kept) (name : List ℕ)

@@ -4,7 +4,7 @@ use Rattle.aatry_session.specs.Turns.{Answer, Told, Ended, Anew, Compared, Widen
 use Rattle.aatry_session.specs.declared.session.Turn.{Turn}
 use Rattle.aatry_session.specs.declared.session.Turn.TheVariants as turn
 
--- what a turn is answered, in the code
+-- the answer of a turn, in the code
 abbrev pub seen_turn : Turn → Answer
 seen_turn (turn.Told text) = Told text
 seen_turn turn.Quit = Ended
@@ -13,7 +13,7 @@ seen_turn turn.Status = Compared
 seen_turn turn.Widen = Widened
 seen_turn (turn.Why question) = Asked (seen_question question)
 
--- what is asked is well-formed
+-- the question is well-formed
 abbrev pub IsAskable : Turn → Type 0
 IsAskable (turn.Why question) = IsWellFormed question
 IsAskable _ = Unit {0}

@@ -24,13 +24,13 @@ change_of ByFlags name = None
 change_of ForceComplain name = Some (Complain name)
 change_of Disable name = Some (DisableChange name)
 
--- what the machine makes of it, and replies
+-- the machine after that change, and its reply
 abbrev pub switch_obeyed : Loading → Managed → List ℕ → Obeyed
 switch_obeyed ByFlags managed name = record { reply = Done; managed = managed }
 switch_obeyed ForceComplain managed name = obeyed [] managed (Make (Complain name))
 switch_obeyed Disable managed name = obeyed [] managed (Make (DisableChange name))
 
--- a session after the changes of some profiles, each in its turn
+-- a session after the changes of some profiles, one after the other
 abbrev pub all_switched : Loading → Kept → List (List ℕ) → Kept
 all_switched loading kept [] = kept
 all_switched loading kept (name ∷ names) = all_switched loading (kept_switched loading kept name) names

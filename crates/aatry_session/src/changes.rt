@@ -8,14 +8,15 @@ use aa_bytes::Sequence;
 use aa_set_manager::Reply;
 use std::alloc::{AllocError, Global};
 
-/// What a session keeps of its changes: of those that are done, oldest first, and then of those that are undone, the next to redo first.
+/// What a session keeps of its changes: of the done ones, oldest first, and then of the undone ones, the next to redo first.
 #[derive(Drop)]
 pub struct Changes {
     /// The text of each.
     pub texts: Vec<Sequence<u8>>,
     /// Where the profiles were read that each loaded.
     pub origins: Vec<Origins>,
-    /// How many of them, the first ones, the history leaves out, and can't be undone: those that loaded the files at the session's beginning.
+    /// How many of them, the first ones, the history leaves out, so that they can't be undone: those that loaded the files at the session's
+    /// beginning.
     pub loaded: usize,
 }
 
@@ -32,7 +33,7 @@ pub fn no_changes(alloc: Global) -> Changes
     }
 }
 
-/// Makes room for what is kept of one change more.
+/// Makes room for what is kept of one more change.
 ///
 /// # Errors
 ///
@@ -48,8 +49,8 @@ pub fn make_room(changes: &mut Changes) -> Result<(), AllocError>
     changes.origins.reserve(1)
 }
 
-/// Keeps the text of a change that was accepted, and where the profiles were read that it loaded, behind those of the changes that were done before it,
-/// in place of those that had been undone. Of a change that was refused nothing is kept. The caller has made room.
+/// Keeps the text of a change that was accepted, and where the profiles were read that it loaded, after those of the `done` changes before it, in
+/// place of those that had been undone. Of a change that was refused nothing is kept. The caller has made room.
 pub fn keep(changes: &mut Changes, done: usize, text: Sequence<u8>, origins: Origins, reply: &Reply)
     requires text_room { length changes.old.texts.items < vec_capacity changes.old.texts }
     requires origin_room { length changes.old.origins.items < vec_capacity changes.old.origins }
@@ -63,7 +64,7 @@ pub fn keep(changes: &mut Changes, done: usize, text: Sequence<u8>, origins: Ori
     }
 }
 
-// Puts an item behind the first ones, as many as `done`, in place of those behind them.
+// Puts an item after the first `done` ones, in place of those after them.
 fn put<T: Drop>(items: &mut Vec<T>, done: usize, item: T)
     requires { length items.old.items < vec_capacity items.old }
     ensures { items.new.items ≡ take done items.old.items ++ item ∷ [] }

@@ -1,5 +1,5 @@
-//! A session of people at a terminal: the machine over commands, told in words, with the history of its changes behind the loading of its files, and where
-//! its profiles were read.
+//! A session of people at a terminal: the machine over commands, with replies in words, the history of its changes after the loading of its files,
+//! and where its profiles were read.
 #![tactic(auto)]
 
 mod changes;

@@ -1,4 +1,4 @@
-//! Changes made, each file read once: what the machine answers, and where the profiles were read that it loaded.
+//! Changes made, each file read once: the machine's reply, and where the profiles were read that it loaded.
 
 ghost use Rattle.std.specs.Prelude.{◌≡◌, Bool, [], Ok, Some, IfErr, IfOk, MatchResult, OnErr, OnOk};
 ghost use Rattle.aa_profile.specs.FilePlaces.{file_places_in};
@@ -21,16 +21,16 @@ use aa_text_files::Files;
 use aatry_policy::origins_of;
 use std::alloc::Global;
 
-/// What a change was answered, and where the profiles were read that it loaded.
+/// The reply to a change, and where the profiles were read that it loaded.
 #[derive(Drop)]
 pub struct Made {
-    /// What the machine answers.
+    /// The machine's reply.
     pub reply: Reply,
-    /// Where the profiles were read, where the change was accepted; nothing is said of it where it was refused.
+    /// Where the profiles were read, where the change was accepted; meaningless where it was refused.
     pub origins: Origins,
 }
 
-// Reads a file by the language by which a manager reads those that it loads.
+// Reads a file by the language by which a manager reads the files that it loads.
 fn read(
     alloc: Global,
     files: &Files,
@@ -44,7 +44,7 @@ fn read(
     read_file_in(alloc, manager.language(), files, name)
 }
 
-// Adds the profiles of a file, as `Manager::add` does, and says where they were read.
+// Adds the profiles of a file, like `Manager::add`, and returns where they were read.
 fn add_file(
     alloc: Global,
     files: &Files,
@@ -62,7 +62,7 @@ fn add_file(
     Ok(Origins::of(own))
 }
 
-// Puts the profiles of a file in the places of those of their names, as `Manager::replace` does, and says where they were read.
+// Puts the profiles of a file in place of those of their names, like `Manager::replace`, and returns where they were read.
 fn replace_file(
     alloc: Global,
     files: &Files,
@@ -80,7 +80,7 @@ fn replace_file(
     Ok(Origins::of(own))
 }
 
-// What a change that loads the profiles of a file was answered, by what it came to.
+// The reply to a change that loads the profiles of a file, by its outcome.
 fn answered(alloc: Global, outcome: Result<Origins, Refusal>) -> Made
     ensures reply { MatchResult outcome (λ _. result.reply ≡ Done) (λ refusal. result.reply ≡ Refused refusal) }
     ensures origins { IfOk outcome (λ own. result.origins ≡ own) }
@@ -94,7 +94,7 @@ fn answered(alloc: Global, outcome: Result<Origins, Refusal>) -> Made
     }
 }
 
-// What a change was answered that is refused.
+// The reply to a change that is refused.
 fn refused(alloc: Global, refusal: Refusal) -> Made
     ensures { result.reply ≡ Refused refusal }
 {
@@ -112,7 +112,7 @@ pub fn add(alloc: Global, files: &Files, manager: &mut Manager, name: &[u8]) -> 
     answered(alloc, add_file(alloc, files, manager, name))
 }
 
-// Puts the profiles of a file in the places of those of their names.
+// Puts the profiles of a file in place of those of their names.
 fn replace(alloc: Global, files: &Files, manager: &mut Manager, name: &[u8]) -> Made
     ensures reply { (flag : Bool) × (record { reply = result.reply; managed = manager.new }
         ≡ obeyed_flagged files.now manager.old flag (Make (Replace name.now))) }
@@ -132,7 +132,7 @@ fn by_line(alloc: Global, files: &Files, manager: &mut Manager, line: &[u8]) -> 
     }
 }
 
-/// Makes the change of a line, as the machine obeys the line. A file whose profiles it loads is read once.
+/// Makes the change of a line, like the machine does for the line. A file whose profiles it loads is read once.
 pub fn make(
     alloc: Global,
     files: &Files,

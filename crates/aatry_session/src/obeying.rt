@@ -1,4 +1,4 @@
-//! A line for the machine over commands, obeyed, and what is told of it.
+//! A line for the machine over commands, obeyed, and the text of its reply.
 
 ghost use Rattle.std.specs.Prelude.{◌≡◌, ◌<◌, ◌++◌, Bool, OnErr, OnOk, None, Some, length, vec_capacity};
 ghost use Rattle.aa_set_manager.specs.Outcomes.{command_in};
@@ -19,7 +19,7 @@ use aatry_report::push_shown_lines;
 use aatry_session_told::{change_in, push_moves, push_refusal, text_of, undoes_more};
 use std::alloc::{AllocError, Global};
 
-// Puts what is told of a reply behind a text. `from` is how many changes were done before it, `to` how many are done now.
+// Appends the text of a reply to `out`. `from` is how many changes were done before it, `to` how many are done now.
 fn push_reply(
     alloc: Global,
     language: Language,
@@ -41,7 +41,7 @@ fn push_reply(
     }
 }
 
-// Keeps a change that was made, where so many were done before it, and appends what is told of it.
+// Keeps a change that was made after `done` others, and appends the text of its reply.
 fn keep_and_tell(
     alloc: Global,
     language: Language,
@@ -76,7 +76,7 @@ fn keep_and_tell(
     )
 }
 
-// Obeys a line that makes a change.
+// Obeys a line that makes a change, and appends the text of the reply.
 fn obey_change(
     alloc: Global,
     files: &Files,
@@ -110,12 +110,12 @@ fn obey_change(
     )
 }
 
-/// Adds the profiles of a file, keeps that change, and appends what is told of it to a text.
+/// Adds the profiles of a file, keeps that change, and appends the text of the reply to `out`.
 ///
 /// # Errors
 ///
-/// Where memory runs out: for what is kept, and nothing is added then; or for what is told, and the change is made and kept. A beginning of what is
-/// told may have been appended.
+/// Where memory runs out: for what is kept, and nothing is added then; or for the text, and the change is made and kept. A beginning of the text may
+/// have been appended.
 pub fn obey_add(
     alloc: Global,
     files: &Files,
@@ -153,7 +153,7 @@ fn undoable(manager: &Manager, loaded: usize) -> usize
     manager.depth().saturating_sub(loaded)
 }
 
-// The reply to a line, which can undo no change of those that the history leaves out, as many as `loaded`.
+// The reply to a line, which can't undo the first `loaded` changes, those that the history leaves out.
 fn reply_behind(files: &Files, manager: &mut Manager, loaded: usize, line: &[u8]) -> Reply
     ensures { (flag : Bool)
         × (record { reply = result; managed = manager.new } ≡ line_obeyed files.now loaded manager.old line.now flag) }
@@ -164,7 +164,7 @@ fn reply_behind(files: &Files, manager: &mut Manager, loaded: usize, line: &[u8]
     reply_to(files, manager, line)
 }
 
-// Obeys another line.
+// Obeys a line that makes no change, and appends the text of the reply.
 fn obey_other(
     alloc: Global,
     files: &Files,
@@ -195,11 +195,11 @@ fn obey_other(
     )
 }
 
-/// Obeys a line, keeps the change that it makes, if it makes one, and appends what is told of it to a text.
+/// Obeys a line, keeps the change that it makes, if it makes one, and appends the text of the reply to `out`.
 ///
 /// # Errors
 ///
-/// Where memory runs out: for what is kept of a change, and the line isn't obeyed then; or for what is told, and it is. A beginning of that may have
+/// Where memory runs out: for what is kept of a change, and the line isn't obeyed then; or for the text, and it is. A beginning of that may have
 /// been appended.
 pub fn obey(
     alloc: Global,

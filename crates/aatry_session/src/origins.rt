@@ -6,7 +6,7 @@ ghost use Rattle.aatry_session.specs.Origins.{newer_origin, origin_among, unplac
 use aatry_policy::{Origin, origin_in};
 use std::marker::Model;
 
-/// Where the profiles were read that a change loaded. Contracts see the list of it.
+/// Where the profiles were read that a change loaded. Contracts see it as a list.
 #[derive(Drop)]
 pub struct Origins {
     items: Vec<Origin>,
@@ -22,7 +22,7 @@ impl Model for Origins {
 }
 
 impl Origins {
-    /// Those of some profiles. It takes no memory.
+    /// The origins of some profiles. It takes no memory.
     pub fn of(items: Vec<Origin>) -> Origins
         ensures { result ≡ items.items }
     {
@@ -53,7 +53,7 @@ fn forget_each(origins: &mut [Origin])
     }
 }
 
-/// Forgets the places in the files of where the profiles of changes were read, and leaves the files' names.
+/// Forgets the places in the files of where the profiles of changes were read, and leaves the files' names. It takes no memory.
 pub fn forget_all(origins: &mut [Origins])
     ensures { origins.new ≡ map (map unplaced_origin) origins.old }
 {
@@ -62,7 +62,7 @@ pub fn forget_all(origins: &mut [Origins])
     }
 }
 
-// The first of these, as many as `count`, or all where there are fewer.
+// The first `count` of these; all where there are fewer.
 fn first_of(origins: &[Origins], count: usize) -> &[Origins]
     ensures { result.now ≡ take count origins.now }
 {
@@ -73,7 +73,7 @@ fn first_of(origins: &[Origins], count: usize) -> &[Origins]
     }
 }
 
-// Where the profile of a name was read: by a change that loaded one of the name, or else as it was known before it.
+// Where the profile of a name was read: by a change that loaded one of the name, or else what was known before it.
 fn newer_origin<'a>(before: Option<&'a Origin>, own: &'a Origins, name: &[u8]) -> Option<&'a Origin>
     ensures { option_map (λ origin. origin.now) result ≡ newer_origin name.now (option_map (λ origin. origin.now) before.entry) own.now }
 {
@@ -83,7 +83,7 @@ fn newer_origin<'a>(before: Option<&'a Origin>, own: &'a Origins, name: &[u8]) -
     }
 }
 
-/// Where the profile of a name was read, by the last of those changes that are done, the first so many, and loaded one of the name.
+/// Where the profile of a name was read, by the last of the first `done` changes that loaded one of the name.
 pub fn origin_among<'a>(origins: &'a [Origins], done: usize, name: &[u8]) -> Option<&'a Origin>
     ensures { option_map (λ origin. origin.now) result ≡ origin_among name.now done origins.now }
 {

@@ -22,28 +22,28 @@ use aatry_session_told::{Saying, push_help, push_history, push_no_question, sayi
 use std::alloc::{AllocError, Global};
 use std::marker::Model;
 
-/// What a line of a session is answered.
+/// What a session does for a line.
 #[derive(Drop)]
 pub enum Turn<'a> {
-    /// This is told of it: lines, each with its line feed, or nothing for a blank one.
+    /// Print these lines, each with its line feed, or nothing for a blank one.
     Told(Sequence<u8>),
-    /// The session ends.
+    /// End the session.
     Quit,
-    /// The files are to be read anew. The policy set and its history stay, until a change loads a file.
+    /// Read the files anew. The policy set and its history stay, until a change loads a file.
     Reload,
-    /// What is loaded is to be told, and how the files differ from those on disk.
+    /// Print what is loaded, and how the files differ from those on disk.
     Status,
-    /// The history is to leave out nothing any more.
+    /// Let the history leave out nothing any more.
     Widen,
-    /// The rules behind the answer to this question are to be told.
+    /// Print the rules that decide the answer to this question.
     Why(Question<'a>),
 }
 
-/// A policy set with its history, and of each change that made it the text, and where the profiles were read that it loaded. The history begins behind the
-/// changes that loaded the files, from `begin_history` on: it tells nothing of them, and `undo` goes back over none of them.
+/// A policy set with its history, and of each change that made it the text, and where the profiles were read that it loaded. The history begins
+/// after the changes that loaded the files, from `begin_history` on: it doesn't list them, and `undo` goes back over none of them.
 ///
-/// Contracts see the manager, these texts and these origins: those of the changes that are done, oldest first, and then those of the changes that are
-/// undone, the next to redo first; and how many changes the history leaves out.
+/// Contracts see the manager, these texts and these origins: those of the done changes, oldest first, and then those of the undone changes, the next
+/// to redo first; and how many changes the history leaves out.
 #[derive(Drop)]
 pub struct Session {
     manager: Manager,
@@ -60,7 +60,7 @@ impl Model for Session {
 }
 
 impl Session {
-    /// A session of the empty policy set, which no change has made yet, of files that are read by a language. With `force_complain` each profile is
+    /// A session of the empty policy set, which no change has made yet, whose files are read by a language. With `force_complain` each profile is
     /// loaded in complain mode. It takes no memory.
     pub fn new(alloc: Global, language: Language, force_complain: bool) -> Session
         ensures { result ≡ begun language force_complain }
@@ -71,7 +71,7 @@ impl Session {
         }
     }
 
-    /// Lets the history begin here: from now on it leaves out the changes that are done so far. It takes no memory.
+    /// Begins the history here: from now on it leaves out the changes that are done so far. It takes no memory.
     pub fn begin_history(&mut self)
         ensures { self.new ≡ history_begun self.old }
     {
@@ -92,36 +92,37 @@ impl Session {
         &self.manager
     }
 
-    /// Remembers what a question passes (`Manager::remember`), so that it is answered quicker from now on. Nothing of the session changes by it.
+    /// Remembers the states that a question passes (`Manager::remember`), so that it is answered quicker from now on. The answers of the session
+    /// don't change.
     pub fn remember(&mut self, question: &Question<'_>)
         ensures { self.new ≡ self.old }
     {
         self.manager.remember(question);
     }
 
-    /// Where the loaded profile of a name was read, as far as that is known: by the last of those changes that are done and loaded a profile of the
-    /// name. So `undo` brings back what was known before. It takes no memory.
+    /// Where the loaded profile of a name was read, as far as that is known: by the last of the done changes that loaded a profile of the name. So
+    /// `undo` brings back what was known before. It takes no memory.
     pub fn origin(&self, profile: &[u8]) -> Option<&Origin>
         ensures { option_map (λ origin. origin.now) result ≡ origin_of self.now profile.now }
     {
         origin_among(&self.changes.origins, self.manager.depth(), profile)
     }
 
-    /// Forgets where in the files the loaded profiles have what they have, also those of changes that are undone: it is for when the files were read
-    /// anew, and a place in them may hold something else. Of each profile the name of its file is known still. It takes no memory.
+    /// Forgets the places in the files of what the loaded profiles have, also those of undone changes: it is for when the files were read anew, and
+    /// a place in them may hold something else. Of each profile the name of its file is still known. It takes no memory.
     pub fn forget_places(&mut self)
         ensures { self.new ≡ unplaced self.old }
     {
         forget_all(&mut self.changes.origins);
     }
 
-    /// Adds the profiles of a file by its name, and tells what the line `add NAME` would be told. A line can't name each file: none names one that
+    /// Adds the profiles of a file by its name, with the reply that the line `add NAME` would have. A line can't name each file: none names one that
     /// has a quote in its name. `files` and `base` are as in `answer`.
     ///
     /// # Errors
     ///
-    /// Where memory runs out: for what is kept of the change, and the change isn't made then; or for what is told, and the change is made and kept
-    /// then all the same. So the policy set and its history stay in step, and the session can go on.
+    /// Where memory runs out: for what is kept of the change, and the change isn't made then; or for the text of the reply, and the change is made
+    /// and kept then all the same. So the policy set and its history stay in step, and the session can go on.
     pub fn add<'a>(
         &mut self,
         alloc: Global,
@@ -148,11 +149,11 @@ impl Session {
     }
 
     /// Puts the loaded profile of a name, which is in force, into complain mode or disables it, as its file is loaded (`aatry_policy::load`), and
-    /// keeps that change, as that of the line `complain NAME` or `disable NAME`. Where the file is loaded by its flags nothing is done.
+    /// keeps that change, like that of the line `complain NAME` or `disable NAME`. Where the file is loaded by its flags nothing is done.
     ///
     /// # Errors
     ///
-    /// Where memory runs out. All is as it was then.
+    /// Where memory runs out. Everything is as it was then.
     pub fn switch(&mut self, alloc: Global, loading: Loading, name: &[u8]) -> Result<(), AllocError>
         ensures ok { OnOk result (self.new ≡ kept_switched loading self.old name.now) }
         ensures left { OnErr result (self.new ≡ self.old) }
@@ -160,15 +161,15 @@ impl Session {
         switch(alloc, &mut self.manager, &mut self.changes, loading, name)
     }
 
-    /// Answers a line, which has no line feed at its end: a command of the machine (`docs/commands.md`) is obeyed as the machine obeys it, and told
-    /// in words; but `undo` goes back over no change that the history leaves out, and is refused where it would have to. The session's own commands are
-    /// `help`, `history`, `loading`, `quit`, `reload`, `status` and `why`. `files` are those that changes load, taken from the folder `base`, which has no
-    /// `/` at its end.
+    /// Answers a line, which has no line feed at its end: a command of the machine (`docs/commands.md`) is obeyed as by the machine, with a reply in
+    /// words; but `undo` goes back over no change that the history leaves out, and is refused where it would have to. The session's own commands are
+    /// `help`, `history`, `loading`, `quit`, `reload`, `status` and `why`. `files` are those that changes load, taken from the folder `base`, which
+    /// has no `/` at its end.
     ///
     /// # Errors
     ///
-    /// Where memory runs out: for what is kept of a change, and the change isn't made then; or for what is told, and a command of the machine is
-    /// obeyed then all the same, with its change kept. So the policy set and its history stay in step, and the session can go on.
+    /// Where memory runs out: for what is kept of a change, and the change isn't made then; or for the text of the reply, and a command of the
+    /// machine is obeyed then all the same, with its change kept. So the policy set and its history stay in step, and the session can go on.
     pub fn answer<'a>(
         &mut self,
         alloc: Global,
@@ -210,7 +211,7 @@ impl Session {
         }
     }
 
-    // The history, told.
+    // The turn that prints the history.
     fn history<'a>(&self, alloc: Global) -> Result<Turn<'a>, AllocError>
         ensures told { IfOk result (λ turn. seen_turn turn ≡ Told (history_told self.now)) }
         ensures askable { IfOk result IsAskable }
@@ -227,7 +228,7 @@ impl Session {
     }
 }
 
-// The commands, told.
+// The turn that prints the commands.
 fn help<'a>(alloc: Global) -> Result<Turn<'a>, AllocError>
     ensures told { IfOk result (λ turn. seen_turn turn ≡ Told help_text) }
     ensures askable { IfOk result IsAskable }

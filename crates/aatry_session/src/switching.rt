@@ -13,7 +13,7 @@ use aatry_folder::Loading;
 use aatry_session_told::text_of;
 use std::alloc::{AllocError, Global};
 
-// Puts the profile of a name into complain mode or disables it, and says what the machine replies.
+// Puts the profile of a name into complain mode or disables it, and returns the machine's reply.
 fn make(manager: &mut Manager, loading: Loading, name: &[u8]) -> Result<Reply, AllocError>
     ensures obeyed { IfOk result (λ reply. record { reply = reply; managed = manager.new } ≡ switch_obeyed loading manager.old name.now) }
     ensures unchanged { OnErr result (manager.new ≡ manager.old) }
@@ -30,7 +30,7 @@ fn make(manager: &mut Manager, loading: Loading, name: &[u8]) -> Result<Reply, A
     }
 }
 
-// The change of a profile, by how its file is loaded: where it is loaded by its flags there is none.
+// The change of a profile, by how its file is loaded; `None` where it is loaded by its flags.
 fn change_of(loading: Loading, name: &[u8]) -> Option<PolicyChange<'_>>
     ensures { option_map seen_change result ≡ change_of loading name.now }
 {

@@ -1,4 +1,4 @@
--- With which faults a session over a folder of policy may end.
+-- The faults with which a session over a folder of policy may end.
 use Rattle.std.specs.Prelude.{◌≡◌, ◌⊎◌, ℕ, List}
 use Rattle.aatry_folder.specs.Told.{ToldFolders}
 use Rattle.aatry_folder.specs.Unread.{IsOfFolder}

@@ -1,11 +1,11 @@
--- What is told of a fault that keeps the program from doing what it is asked for.
+-- The words of a fault that keeps the program from doing what it is asked for.
 use Rattle.std.specs.Prelude.{ℕ, List, [], ◌∷◌, ◌++◌, codes, string_bytes}
 use Rattle.aa_bytes.specs.Bytes.{line_feed}
 use Rattle.aatry_folder.specs.declared.fault.Fault.{Fault}
 use Rattle.aatry_folder.specs.declared.fault.Fault.TheVariants.{BadArguments, BadQuestion, Unreadable, TooMany, Compressed, NoMemory, Read, Write}
 use Rattle.aatry_report.specs.Shown.{shown}
 
--- the words that tell a fault
+-- the words of a fault
 abbrev pub words_of : Fault → List ℕ
 words_of BadArguments = codes "aatry: bad arguments: see aatry --help"
 words_of BadQuestion = codes "aatry: bad question: see aatry why --help, aatry who --help"
@@ -16,12 +16,12 @@ words_of NoMemory = codes "aatry: no memory"
 words_of Read = codes "aatry: read fault"
 words_of Write = codes "aatry: write fault"
 
--- the name that stands behind them
+-- the name that follows them
 abbrev pub name_of : Fault → List ℕ
 name_of (Unreadable name) = string_bytes name
 name_of (Compressed name) = string_bytes name
 name_of _ = []
 
--- the line that tells a fault
+-- the line of a fault
 abbrev pub told_line : Fault → List ℕ
 told_line fault = words_of fault ++ shown (name_of fault) ++ line_feed ∷ []

@@ -1,2 +1,2 @@
--- What is about the code: sessions as they are kept.
+-- Definitions about the code: sessions as they are kept.
 pub mod Sessions

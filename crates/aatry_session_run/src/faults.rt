@@ -1,4 +1,4 @@
-//! What is told of a fault.
+//! Faults, in words.
 
 ghost use Rattle.std.specs.Prelude.{◌≡◌, ◌++◌, OnOk};
 ghost use Rattle.aatry_session_run.specs.Faults.{name_of, told_line, words_of};
@@ -7,7 +7,7 @@ use aatry_folder::Fault;
 use aatry_report::push_shown;
 use std::alloc::AllocError;
 
-/// The words that tell a fault, behind which its name stands.
+/// The words of a fault, which its name follows.
 pub fn words_of(fault: &Fault) -> &'static str
     ensures { result.now ≡ words_of fault.now }
 {
@@ -23,7 +23,7 @@ pub fn words_of(fault: &Fault) -> &'static str
     }
 }
 
-/// The name that stands behind the words of a fault, as it is kept. It is empty where the fault is about none.
+/// The name that follows the words of a fault, as it is kept. It is empty where the fault is about none.
 pub fn name_of(fault: &Fault) -> &str
     ensures { result.now ≡ name_of fault.now }
 {
@@ -33,7 +33,7 @@ pub fn name_of(fault: &Fault) -> &str
     }
 }
 
-// Appends the line that tells a fault to a text: its words and its name, as `aatry_report::push_shown` shows it.
+// Appends the line of a fault to a text: its words and its name, as `aatry_report::push_shown` shows it.
 pub fn push_told(fault: &Fault, out: &mut Vec<u8>) -> Result<(), AllocError>
     ensures { OnOk result (out.new.items ≡ out.old.items ++ told_line fault.now) }
 {

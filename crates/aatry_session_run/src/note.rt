@@ -1,4 +1,4 @@
-//! What is told behind the reply to a line that loads a file: that the disk has another one now.
+//! The note after the reply to a line that loads a file: that the disk has another one now.
 
 ghost use Rattle.std.specs.Prelude.{◌≡◌, ◌++◌, ℕ, List, IfOk, MatchOption, OnOk, string_bytes};
 ghost use Rattle.aatry_folder.specs.OneFile.{IsFileAt};
@@ -17,7 +17,7 @@ use aatry_session_told::loaded_file;
 use std::alloc::{AllocError, Global};
 use std::str::from_utf8;
 
-// Appends the line that tells that the disk has a newer file.
+// Appends the line that says that the disk has a newer file.
 fn push_newer(alloc: Global, base: &str, name: &[u8], out: &mut Vec<u8>) -> Result<(), AllocError>
     ensures { OnOk result (out.new.items ≡ out.old.items ++ newer_line base.now name.now) }
 {
@@ -27,7 +27,7 @@ fn push_newer(alloc: Global, base: &str, name: &[u8], out: &mut Vec<u8>) -> Resu
     out.extend_from_slice(b" is newer on disk: reload takes it\n")
 }
 
-// Appends that line, if the bytes that a session has of a file aren't those on disk.
+// Appends that line, if the bytes that a session has of a file differ from those on disk.
 fn push_noted(
     alloc: Global,
     base: &str,
@@ -55,7 +55,7 @@ fn read_at<D: FileSystem>(alloc: Global, disk: &D, path: String) -> Option<Files
     }
 }
 
-// The file of a name, read again, if one can be read at the path that it is told by.
+// The file of a name, read again, if one can be read at its path below the folder.
 fn read_again<D: FileSystem>(
     alloc: Global,
     disk: &D,
@@ -72,7 +72,7 @@ fn read_again<D: FileSystem>(
     }
 }
 
-// Reads a file that a session has again, and appends that the disk has a newer one, if its bytes are others there.
+// Reads a file that a session has again, and appends that the disk has a newer one, if its bytes differ.
 fn push_if_newer<D: FileSystem>(
     alloc: Global,
     disk: &D,
@@ -91,12 +91,12 @@ fn push_if_newer<D: FileSystem>(
     }
 }
 
-/// Appends to a text, where the command of a line is `add` or `replace` with a file that a session has, that the disk has a newer one: a file can be read at
-/// the path that it is told by, and its bytes are others. One file is read for it, none that it includes, and nothing for other lines.
+/// Appends that the disk has a newer file to a text, where the command of a line is `add` or `replace` with a file that a session has: where a file
+/// can be read at its path below the folder, and its bytes differ. It reads only that file, none that it includes, and nothing for other lines.
 ///
 /// # Errors
 ///
-/// Where memory runs out for what is told, or for the path. A beginning may have been appended then.
+/// Where memory runs out for the text, or for the path. A beginning may have been appended then.
 pub fn push_note<F: Folders, D: FileSystem>(
     alloc: Global,
     setting: &Setting<'_, F, D>,

@@ -40,7 +40,7 @@ use aatry_session::{Session, Turn};
 use aatry_why::{Sources, push_answer};
 use std::alloc::{AllocError, Global};
 
-// What is told of a file that is taken, as it is loaded.
+// The reply for a file that is taken, as it is loaded.
 const TAKEN: &[u8] = b"ok\n";
 
 // Appends the line of a file that is left out to a text.
@@ -53,7 +53,7 @@ fn push_left_out(name: &str, out: &mut Vec<u8>) -> Result<(), AllocError>
     Ok(())
 }
 
-// Appends what is told of a file to a text, as it is loaded: that it is left out, and why; and nothing of one that is taken.
+// Appends the report on the loading of a file to a text: that it is left out, and why; and nothing for one that is taken.
 fn push_loading(name: &str, turn: &Turn<'_>, out: &mut Vec<u8>) -> Result<(), AllocError>
     ensures { OnOk result (out.new.items ≡ out.old.items ++ loading_text name.now (seen_turn turn.now)) }
 {
@@ -66,7 +66,7 @@ fn push_loading(name: &str, turn: &Turn<'_>, out: &mut Vec<u8>) -> Result<(), Al
     }
 }
 
-// Whether a file was taken, by what is told of it.
+// Whether a file was taken, by the reply.
 fn is_taken(turn: &Turn<'_>) -> bool
     ensures { result ≡ is_taken (seen_turn turn.now) }
 {
@@ -115,7 +115,7 @@ fn switch_file(
     }
 }
 
-// The same, where something is to be changed.
+// Makes the change of each profile of a file, as the file is loaded, where it was taken and something is to be changed.
 fn settle(
     alloc: Global,
     language: Language,
@@ -137,7 +137,7 @@ fn settle(
     }
 }
 
-// Adds the profiles of a file, as a line of the session would, loaded as the file says, and appends why it is left out, if it is.
+// Adds the profiles of a file, like a line of the session would, loaded as the file is to be, and appends why it is left out, if it is.
 fn load_file(
     alloc: Global,
     language: Language,
@@ -155,7 +155,7 @@ fn load_file(
     push_loading(file.name.as_str(), &turn, out)
 }
 
-// The same of each file of these.
+// Adds the profiles of each of these files, loaded as the file is to be, and appends why it is left out, if it is.
 fn load_each(
     alloc: Global,
     language: Language,
@@ -174,8 +174,8 @@ fn load_each(
     Ok(())
 }
 
-// Reads all below the folder again, and appends that it is so: where in the files the loaded profiles have what they have isn't known any more then.
-// Where something can't be read, that is told, and what was read before stays.
+// Reads everything below the folder again, and appends that this was done: where in the files the loaded profiles have what they have isn't known
+// any more then. Where something can't be read, the fault is appended, and what was read before stays.
 fn reload<F: Folders, D: FileSystem>(
     alloc: Global,
     setting: &Setting<'_, F, D>,
@@ -202,7 +202,7 @@ fn reload<F: Folders, D: FileSystem>(
     }
 }
 
-// Where the rules of who asks are written, as far as the session knows.
+// Where the rules of the asker are written, as far as the session knows.
 fn sources_of<'a>(base: &'a str, table: &'a Table, question: &Question<'_>) -> Sources<'a>
     ensures { seen_sources result ≡ sources_of base.now (seen_table table.now) (seen_question question.entry.now) }
 {
@@ -216,7 +216,7 @@ fn sources_of<'a>(base: &'a str, table: &'a Table, question: &Question<'_>) -> S
     }
 }
 
-// Appends what the policy set of a session answers to a question, with the rules of the loaded profile behind the answer.
+// Appends the answer of a session's policy set to a question, with the rules of the loaded profile that decide it.
 fn answer_question(
     alloc: Global,
     base: &str,
@@ -239,7 +239,7 @@ fn answer_question(
     Ok(())
 }
 
-// Appends what is told of an answer, and says whether the session goes on. What is to be read again is read, and the history leaves out nothing any more
+// Appends the text of a turn, and returns whether the session goes on. What is to be read again is read, and the history leaves out nothing any more
 // where it is to.
 fn tell<F: Folders, D: FileSystem>(
     alloc: Global,
@@ -281,7 +281,7 @@ fn tell<F: Folders, D: FileSystem>(
     }
 }
 
-// Answers a line of the session: appends what is told of it, and says whether the session goes on.
+// Answers a line of the session: appends the text of its turn, and returns whether the session goes on.
 fn answer_line<F: Folders, D: FileSystem>(
     alloc: Global,
     setting: &Setting<'_, F, D>,
@@ -314,7 +314,7 @@ fn show<W: Sink>(writer: &mut W, text: &[u8]) -> Result<(), Fault>
     }
 }
 
-// Prompts, answers the next line and writes what is told of it, and says whether the session goes on.
+// Prompts, answers the next line and writes the text of its turn, and returns whether the session goes on.
 fn step<F: Folders, D: FileSystem, S: Source, W: Sink>(
     alloc: Global,
     setting: &Setting<'_, F, D>,
@@ -347,7 +347,7 @@ fn step<F: Folders, D: FileSystem, S: Source, W: Sink>(
     Ok(goes)
 }
 
-// Answers the lines of an input one behind the other, to the session's end.
+// Answers the lines of an input one after the other, to the session's end.
 fn run<F: Folders, D: FileSystem, S: Source, W: Sink>(
     alloc: Global,
     setting: &Setting<'_, F, D>,
@@ -373,8 +373,8 @@ fn run<F: Folders, D: FileSystem, S: Source, W: Sink>(
     Err(Fault::Read)
 }
 
-// Begins a session over a folder: the files at its top are added, each in its turn and as it is loaded, and what is told of those that are refused is
-// appended to a text. Its history begins behind that.
+// Begins a session over a folder: the files at its top are added, one after the other and each as it is loaded, and the reports on those that are
+// refused are appended to a text. Its history begins after that.
 fn begin<F: Folders, D: FileSystem>(
     alloc: Global,
     setting: &Setting<'_, F, D>,
@@ -406,7 +406,7 @@ fn begin<F: Folders, D: FileSystem>(
     Ok(Table { files, session })
 }
 
-// Has a session: begins it, tells of that, and answers the lines of the input to its end.
+// Runs a session: begins it, writes the report on that, and answers the lines of the input to its end.
 fn have_session<F: Folders, D: FileSystem, S: Source, W: Sink>(
     alloc: Global,
     setting: &Setting<'_, F, D>,
@@ -428,22 +428,22 @@ fn have_session<F: Folders, D: FileSystem, S: Source, W: Sink>(
     run(alloc, setting, &mut table, reader, &mut lines, writer)
 }
 
-/// Has a session by a language over the folder of policy that is asked for: reads it as `aatry_folder::policy_below` does, adds the profiles of those
-/// at its top, each file in its turn and as it is to be loaded, and tells those that are refused. Then each line of the input is answered as
-/// `aatry_session::Session::answer` answers it, until a line ends the session, or the input does. `prompt` is written before each line is read.
-/// `reload` reads all below the folder again: the policy set and its history stay, and where in the files the loaded profiles have their rules isn't
-/// known any more. `why` is answered with the rules of the loaded profile, each with the place where it was read, while that is known. The history begins
-/// behind the changes that loaded the files, which `undo` leaves alone, until `loading` takes them in. `status` tells what is loaded, and reads all below
-/// the folder again to tell how it differs from what was read last, which stays. Behind the reply to `add` or `replace` stands where the disk has another
-/// file than the one that was loaded, which is read for that alone.
+/// Runs a session by a language over the folder of policy that is asked for: the folder is read as by `aatry_folder::policy_below`, the profiles of
+/// the files at its top are added, one file after the other and each as it is to be loaded, and the refused ones are reported. Then each line of the
+/// input is answered as by `aatry_session::Session::answer`, until a line ends the session, or the input does. `prompt` is written before each line
+/// is read. `reload` reads everything below the folder again: the policy set and its history stay, and where in the files the loaded profiles have
+/// their rules isn't known any more. `why` prints the rules of the loaded profile, each with the place where it was read, while that is known. The
+/// history begins after the changes that loaded the files, which `undo` leaves alone, until `loading` includes them. `status` prints what is loaded,
+/// and reads everything below the folder again to print how it differs from what was read last, which stays. The reply to `add` or `replace` is
+/// followed by a note where the disk has another file than the one that was loaded; the file is read for that alone.
 ///
 /// # Errors
 ///
 /// - `Unreadable` with the first folder or file that can't be read, `TooMany` where there are more than 65,536: nothing was written then.
-/// - `Read` where a read of the input failed, a line took more than 2,147,483,648 reads, or 1,073,741,824 lines didn't end the session. What is told of
-///   the lines so far is written then, and the prompt behind it, but where there were so many lines.
-/// - `Write` where a write failed: a front of what a session writes is written then.
-/// - `NoMemory` where memory ran out: nothing is written then, or what is told of the lines so far, and the prompt behind it.
+/// - `Read` where a read of the input failed, a line took more than 2,147,483,648 reads, or 1,073,741,824 lines didn't end the session. The replies
+///   to the lines so far are written then, followed by the prompt, except where there were so many lines.
+/// - `Write` where a write failed: a prefix of what a session writes is written then.
+/// - `NoMemory` where memory ran out: nothing is written then, or the replies to the lines so far, followed by the prompt.
 pub fn session_folder<F: Folders, D: FileSystem, S: Source, W: Sink>(
     alloc: Global,
     language: Language,

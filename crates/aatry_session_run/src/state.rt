@@ -1,4 +1,4 @@
-//! What a session over a folder of policy has.
+//! The state of a session over a folder of policy.
 
 use aa_profile_parsing::Language;
 use aa_text_files::Files;
@@ -20,7 +20,7 @@ pub struct Setting<'a, F, D> {
     pub prompt: &'a [u8],
 }
 
-/// A session over a folder, and all that lies below that, as it was read last.
+/// A session over a folder, and everything below that, as it was read last.
 #[derive(Drop)]
 pub struct Table {
     /// What lies below the folder.

@@ -1,4 +1,4 @@
-//! What is loaded, and how the files that a session has differ from those on disk, told.
+//! What is loaded, and how the files that a session has differ from those on disk.
 
 ghost use Rattle.std.specs.Prelude.{◌≡◌, ◌++◌, ℕ, List, OnOk};
 ghost use Rattle.aa_set_answers.specs.List.{list_lines};
@@ -15,7 +15,7 @@ use aatry_session::Session;
 use aatry_session_told::push_differing;
 use std::alloc::{AllocError, Global};
 
-// Appends what is loaded to a text, as `list` tells it.
+// Appends what is loaded to a text, as `list` prints it.
 fn push_loaded(session: &Session, out: &mut Vec<u8>) -> Result<(), AllocError>
     ensures { OnOk result (out.new.items ≡ out.old.items ++ shown_lines (list_lines session.now.managed.machine.now)) }
 {
@@ -25,7 +25,8 @@ fn push_loaded(session: &Session, out: &mut Vec<u8>) -> Result<(), AllocError>
     }
 }
 
-// Reads all below the folder, and appends how these files differ from the ones that a session has; or the fault that keeps them from being read.
+// Reads everything below the folder, and appends how these files differ from the ones that a session has; or the fault that keeps them from being
+// read.
 fn push_disk<F: Folders, D: FileSystem>(
     alloc: Global,
     setting: &Setting<'_, F, D>,
@@ -47,8 +48,9 @@ fn push_disk<F: Folders, D: FileSystem>(
     }
 }
 
-/// Appends what is loaded to a text, as `list` tells it, and behind it how the files of a session differ from those below the folder now, which are read for
-/// it (`aatry_session_told::push_differing`). Where something can't be read, that is told, as `reload` tells it. The session stays as it is.
+/// Appends what is loaded to a text, as `list` prints it, followed by how the files of a session differ from those below the folder now, which are
+/// read for it (`aatry_session_told::push_differing`). Where something can't be read, the fault is appended, as `reload` prints it. The session
+/// stays as it is.
 ///
 /// # Errors
 ///

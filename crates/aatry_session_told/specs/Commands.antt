@@ -10,13 +10,13 @@ abbrev pub change_in : Result (Option Command) Refusal → Option PolicyChange
 change_in (Ok (Some (Make change))) = Some change
 change_in _ = None
 
--- the file whose profiles a change loads, if it loads some
+-- the file whose profiles a change loads, if it loads any
 abbrev pub loaded_by : Option PolicyChange → Option (List ℕ)
 loaded_by (Some (Add file)) = Some file
 loaded_by (Some (Replace file)) = Some file
 loaded_by _ = None
 
--- the file whose profiles the command of a line loads, if it loads some: a line that is too long does nothing
+-- the file whose profiles the command of a line loads, if it loads any: a line that is too long does nothing
 abbrev pub loaded_file : List ℕ → Option (List ℕ)
 loaded_file line = if nat_le (length line) longest_line then loaded_by (change_in (line_command (words_of line))) else None
 

@@ -1,4 +1,4 @@
--- How the files that a session read differ from those that lie on disk now, by their names and bytes. Folders have no bytes, and aren't compared; nor are
+-- How the files that a session read differ from those on disk now, by their names and bytes. Folders have no bytes, and aren't compared; nor are
 -- whole paths, which are further names of files (docs/aatry.md).
 use Rattle.std.specs.Prelude.{ℕ, Bool, ◌||◌, if◌then◌else◌, List, [], ◌∷◌, ◌++◌, codes, flat_map, length, slice_index_or, Option, None, Some}
 use Rattle.std.specs.List.{sum_by}
@@ -14,7 +14,7 @@ use Rattle.aatry_session_told.specs.declared.differing.Differs.TheVariants.{Gone
 use Rattle.aatry_session_told.specs.declared.differing.Side.{Side}
 use Rattle.aatry_session_told.specs.declared.differing.Side.TheVariants.{Disk, Read}
 
--- the file at a place of some, where there is one
+-- the file at an index, where there is one
 abbrev pub at_place : List File → ℕ → File
 at_place files place = slice_index_or files place ([], [])
 
@@ -27,7 +27,7 @@ pub record Difference : Type 0 where
   pub name : List ℕ
   pub how : Differs
 
--- how a file of these bytes differs from what the disk has of its name now, if it does
+-- how a file with these bytes differs from what the disk has of its name now, if it does
 abbrev pub gone_or_newer : List ℕ → Option (List ℕ) → Option Differs
 gone_or_newer bytes None = Some Gone
 gone_or_newer bytes (Some later) = if bytes_eq later bytes then None else Some Newer
@@ -36,7 +36,7 @@ gone_or_newer bytes (Some later) = if bytes_eq later bytes then None else Some N
 abbrev pub read_differs : List File → File → Option Differs
 read_differs disk file = if is_apart file.0 then None else gone_or_newer file.1 (bytes_of disk file.0)
 
--- how a file of the disk differs from those that were read by its name alone, if it does: none of its name was read
+-- how a file of the disk differs from those that were read only by its name, if it does: none of its name was read
 abbrev pub disk_differs : List File → List ℕ → Option Differs
 disk_differs read name = if is_apart name || has_file read name then None else Some New
 
@@ -54,7 +54,7 @@ difference_if name (Some how) = record { name = name; how = how } ∷ []
 abbrev pub difference_of : Side → List File → File → List Difference
 difference_of side others file = difference_if file.0 (side_differs side others file)
 
--- All files that differ: those that were read, in their order, and behind them those that the disk alone has, in theirs.
+-- All files that differ: those that were read, in their order, followed by those that only the disk has, in theirs.
 abbrev pub differences : List File → List File → List Difference
 differences read disk = flat_map (difference_of Read disk) read ++ flat_map (difference_of Disk read) disk
 
@@ -76,11 +76,11 @@ counted name = if is_apart name then 0 else 1
 abbrev pub file_count : List File → ℕ
 file_count files = sum_by (λ file. counted file.0) files
 
--- the line of how many files were read, and how many differ
+-- the line on how many files were read, and how many differ
 abbrev pub count_line : ℕ → ℕ → List ℕ
 count_line files differing = codes "files " ++ decimal files ++ codes ", differing " ++ decimal differing ++ line_feed ∷ []
 
--- what is told of files that were read and of those of the disk: a line for each that differs, and how many there are
+-- the report on files that were read and those of the disk: a line for each that differs, and how many there are
 abbrev pub differing_lines : List ℕ → List File → List File → List ℕ
 differing_lines base read disk =
     flat_map (difference_line base) (differences read disk) ++ count_line (file_count read) (length (differences read disk))

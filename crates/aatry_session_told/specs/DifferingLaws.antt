@@ -1,4 +1,4 @@
--- What the law on files that differ speaks of.
+-- Definitions for the law on files that differ.
 use Rattle.std.specs.Prelude.{◌≡◌, ℕ, false, List, []}
 use Rattle.aa_text_files.specs.Files.{File, file_named}
 use Rattle.aatry_session_told.specs.Differing.{differences, is_apart}

@@ -1,4 +1,4 @@
--- The commands of a session, told.
+-- The commands of a session, in words.
 use Rattle.std.specs.Prelude.{ℕ, List, codes}
 
 abbrev pub help_text : List ℕ

@@ -1,4 +1,4 @@
--- What the lines of a session say: some are for the session itself, all others for the machine over commands (docs/commands.md).
+-- The meaning of the lines of a session: some are for the session itself, all others for the machine over commands (docs/commands.md).
 use Rattle.std.specs.Prelude.{ℕ, ◌&&◌, nat_le, if◌then◌else◌, List, [], ◌∷◌, length, Option, None, Some, Result, Ok, Err, codes}
 use Rattle.std.specs.Str.{bytes_eq}
 use Rattle.aa_set_commands.specs.Question.{IsWellFormed, Question, seen_question}
@@ -10,9 +10,9 @@ use Rattle.aatry_questions.specs.Meant.{meant_fault, question_meant}
 use Rattle.aatry_session_told.specs.declared.sayings.Saying.{Saying as CodeSaying}
 use Rattle.aatry_session_told.specs.declared.sayings.Saying.TheVariants as said
 
--- what a line says: something to the machine, or to tell the commands or the history, to have the changes of the loading in the history, to end the session, to
--- read the files anew, to tell what is loaded and which files differ from the disk's, to tell the rules behind the answer to a question, or to tell what is
--- wrong with words that are none
+-- the meaning of a line: a command of the machine; to print the commands or the history, to include the changes of the loading in the history, to
+-- end the session, to read the files anew, to print what is loaded and which files differ from the disk's, to print the rules that decide the answer
+-- to a question, or to print what is wrong with words that make none
 pub data Saying : Type 0 where
   Command : Saying
   Help : Saying
@@ -24,7 +24,7 @@ pub data Saying : Type 0 where
   Why : (question : Question) → Saying
   NoQuestion : (fault : Found) → Saying
 
--- what a line says, in the code
+-- the meaning of a line, of the code
 abbrev pub seen_saying : CodeSaying → Saying
 seen_saying said.Command = Command
 seen_saying said.Help = Help
@@ -36,7 +36,7 @@ seen_saying said.Status = Status
 seen_saying (said.Why question) = Why (seen_question question)
 seen_saying (said.NoQuestion fault) = NoQuestion (seen_fault fault)
 
--- what is asked is well-formed
+-- the question is well-formed
 abbrev pub IsAskable : CodeSaying → Type 0
 IsAskable (said.Why question) = IsWellFormed question
 IsAskable _ = Unit {0}
@@ -54,7 +54,7 @@ word_saying word =
     if bytes_eq word (codes "reload") then Reload else
     if bytes_eq word (codes "status") then Status else Command
 
--- what words behind `why` say: the question that they mean, or what is wrong with them
+-- the meaning of words after `why`: the question that they mean, or what is wrong with them
 abbrev pub asked_saying : Result Question Refusal → Option Found → Saying
 asked_saying (Ok question) fault = Why question
 asked_saying (Err refusal) (Some fault) = NoQuestion fault
@@ -63,12 +63,12 @@ asked_saying (Err refusal) None = Command
 abbrev pub why_saying : List (List ℕ) → Saying
 why_saying words = asked_saying (question_meant words) (meant_fault words)
 
--- what words behind `ask` say, by what is wrong with them: they are for the machine, but where they are no question
+-- the meaning of words after `ask`, by what is wrong with them: they are for the machine, unless they are no question
 abbrev pub ask_saying : Option Found → Saying
 ask_saying None = Command
 ask_saying (Some fault) = NoQuestion fault
 
--- what a first word and others behind it say: more than a question has are for the machine, which refuses them
+-- the meaning of a first word and the words after it: more than a question has are for the machine, which refuses them
 abbrev pub words_saying : List ℕ → List (List ℕ) → Saying
 words_saying first rest =
     if bytes_eq first (codes "why") && nat_le (length rest) most_asked then why_saying rest else
@@ -83,6 +83,6 @@ abbrev pub line_saying : Option (List (List ℕ)) → Saying
 line_saying None = Command
 line_saying (Some words) = saying_of words
 
--- what a line says: one that is too long nothing to the session
+-- the meaning of a line: one that is too long is none of the session's
 abbrev pub saying_in : List ℕ → Saying
 saying_in line = if nat_le (length line) longest_line then line_saying (words_of line) else Command

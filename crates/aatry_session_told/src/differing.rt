@@ -1,4 +1,4 @@
-//! How the files that a session read differ from those that lie on disk now, as it is told.
+//! The report on how the files that a session read differ from those on disk now.
 
 ghost use Rattle.std.specs.Prelude.{◌≡◌, ◌≤◌, ◌++◌, IfOk, OnOk, flat_map, option_map};
 ghost use Rattle.aa_text_files.specs.Files.{name_at};
@@ -40,7 +40,7 @@ struct Difference<'a> {
     how: Differs,
 }
 
-// How a file of these bytes differs from what the disk has of its name now, if it does.
+// How a file with these bytes differs from what the disk has of its name now, if it does.
 fn gone_or_newer(bytes: &[u8], later: Option<&[u8]>) -> Option<Differs>
     ensures { result ≡ gone_or_newer bytes.now (option_map (λ bytes. bytes.now) later.entry) }
 {
@@ -94,7 +94,7 @@ fn side_differs(side: Side, others: &Files, name: &[u8], bytes: &[u8]) -> Option
     }
 }
 
-// Appends a file to others, if it differs.
+// Appends a file to `found`, if it differs.
 fn push_if<'a>(
     name: &'a [u8],
     how: Option<Differs>,
@@ -111,7 +111,7 @@ fn push_if<'a>(
     }
 }
 
-// Appends the file at a place of one side, if it differs from those of the other.
+// Appends the file at an index of one side to `found`, if it differs from those of the other.
 fn push_at<'a>(
     side: Side,
     files: &'a Files,
@@ -130,7 +130,7 @@ fn push_at<'a>(
     )
 }
 
-// Appends those files of one side that differ from those of the other.
+// Appends those files of one side to `found` that differ from those of the other.
 fn push_each<'a>(
     side: Side,
     files: &'a Files,
@@ -171,7 +171,7 @@ fn words_of(how: Differs) -> &'static str
     }
 }
 
-// Puts the line of a file that differs behind a text.
+// Appends the line of a file that differs to a text.
 fn push_line(
     alloc: Global,
     base: &[u8],
@@ -187,7 +187,7 @@ fn push_line(
     Ok(())
 }
 
-// Puts a line for each file that differs behind a text.
+// Appends a line for each file that differs to a text.
 fn push_lines(
     alloc: Global,
     base: &[u8],
@@ -204,7 +204,7 @@ fn push_lines(
     Ok(())
 }
 
-// Counts the file at a place as one, and what isn't compared as none.
+// Counts the file at an index as one, and what isn't compared as none.
 fn counted_at(files: &Files, place: usize) -> usize
     ensures counted { result ≡ counted (name_at files.now place) }
     ensures few { result ≤ 1 }
@@ -223,7 +223,7 @@ fn file_count(files: &Files) -> usize
     count
 }
 
-// Puts the line of how many files were read, and how many differ, behind a text.
+// Appends the line on how many files were read, and how many differ, to a text.
 fn push_count(out: &mut Vec<u8>, files: usize, differing: usize) -> Result<(), AllocError>
     ensures { OnOk result (out.new.items ≡ out.old.items ++ count_line files differing) }
 {
@@ -233,14 +233,14 @@ fn push_count(out: &mut Vec<u8>, files: usize, differing: usize) -> Result<(), A
     Ok(())
 }
 
-/// Puts behind a text how the files that were read from a folder, whose path is `base`, differ from those that lie there now, `disk`: a line for each that
-/// has other bytes now or isn't there any more, in the order in which they were read; behind these one for each of whose name none was read; and how many
-/// files were read, and how many lines these are. Of a file that couldn't be read, then or now, what stands in its place counts as its bytes
-/// (`aa_start::gather_readable`). Folders are none of these, and whole paths aren't, by which files have a further name.
+/// Appends how the files that were read from a folder, whose path is `base`, differ from those that are there now, `disk`, to a text: a line for
+/// each that has other bytes now or is gone, in the order in which they were read; followed by one for each of whose name none was read; and how
+/// many files were read, and how many lines these are. For a file that couldn't be read, then or now, the bytes in its place count
+/// (`aa_start::gather_readable`). Folders aren't compared, nor whole paths, by which files have a further name.
 ///
 /// # Errors
 ///
-/// Where memory runs out. A beginning may have been put then.
+/// Where memory runs out. A beginning may have been appended then.
 pub fn push_differing(
     alloc: Global,
     base: &[u8],

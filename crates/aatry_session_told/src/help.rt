@@ -1,4 +1,4 @@
-//! The commands of a session, told.
+//! The commands of a session, in words.
 
 ghost use Rattle.std.specs.Prelude.{◌≡◌, ◌++◌, OnOk};
 ghost use Rattle.aatry_session_told.specs.Help.{help_text};
@@ -19,7 +19,7 @@ reload: read the files anew
 help, quit
 ";
 
-/// Puts the commands of a session behind a text.
+/// Appends the commands of a session to a text.
 ///
 /// # Errors
 ///

@@ -14,7 +14,7 @@ use aatry_report::push_shown;
 use itoa::Buffer;
 use std::alloc::{AllocError, Global};
 
-// Puts a word and a name behind a text.
+// Appends a word and a name to a text.
 fn push_named(out: &mut Vec<u8>, word: &str, name: &[u8]) -> Result<(), AllocError>
     ensures { OnOk result (out.new.items ≡ out.old.items ++ word.now ++ shown name.now) }
 {
@@ -22,7 +22,7 @@ fn push_named(out: &mut Vec<u8>, word: &str, name: &[u8]) -> Result<(), AllocErr
     push_shown(out, name)
 }
 
-// Puts the text of a change behind another: the words of its command.
+// Appends the text of a change to another: the words of its command.
 fn push_change(out: &mut Vec<u8>, change: PolicyChange<'_>) -> Result<(), AllocError>
     ensures { OnOk result (out.new.items ≡ out.old.items ++ change_text (seen_change change.entry)) }
 {
@@ -49,14 +49,14 @@ pub fn text_of(alloc: Global, change: PolicyChange<'_>) -> Result<Sequence<u8>, 
     Ok(Sequence::from_vec(text))
 }
 
-// What stands between the number of a change and its text.
+// The words between the number of a change and its text.
 fn behind_number(before: usize, done: usize) -> &'static str
     ensures { result.now ≡ behind_number before done }
 {
     if before < done { " " } else { " undone: " }
 }
 
-// Puts the line of a change behind a text.
+// Appends the line of a change to a text.
 fn push_change_line(
     out: &mut Vec<u8>,
     before: usize,
@@ -74,7 +74,7 @@ fn push_change_line(
     Ok(())
 }
 
-// Puts the line of a mark behind a text.
+// Appends the line of a mark to a text.
 fn push_mark_line(out: &mut Vec<u8>, name: &[u8]) -> Result<(), AllocError>
     ensures { OnOk result (out.new.items ≡ out.old.items ++ mark_line name.now) }
 {
@@ -84,7 +84,7 @@ fn push_mark_line(out: &mut Vec<u8>, name: &[u8]) -> Result<(), AllocError>
     Ok(())
 }
 
-// Puts the lines of those marks behind a text that mark the set which so many changes behind those of the loading led to.
+// Appends the lines of those marks to a text that mark the set after so many changes past those of the loading.
 fn push_mark_lines(
     out: &mut Vec<u8>,
     loaded: usize,
@@ -103,7 +103,7 @@ fn push_mark_lines(
     Ok(())
 }
 
-// Puts the lines of changes behind a text, the first `done` of which are done, the others undone.
+// Appends the lines of changes to a text, the first `done` of which are done, the others undone.
 fn push_lines(
     out: &mut Vec<u8>,
     loaded: usize,
@@ -124,12 +124,12 @@ fn push_lines(
     push_mark_lines(out, loaded, before, marks)
 }
 
-/// Puts the history behind a text, as it begins behind the changes that loaded the files, of which there are `loaded`: a line for each further change, of
-/// all of which the first `done` are done, the others undone, and behind it one for each mark of the policy set that it led to.
+/// Appends the history to a text, as it begins after the changes that loaded the files, of which there are `loaded`: a line for each further change,
+/// of all of which the first `done` are done, the others undone, followed by one for each mark of the policy set after it.
 ///
 /// # Errors
 ///
-/// Where memory runs out. A beginning may have been put then.
+/// Where memory runs out. A beginning may have been appended then.
 pub fn push_history(
     out: &mut Vec<u8>,
     loaded: usize,

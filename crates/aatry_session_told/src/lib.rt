@@ -1,5 +1,5 @@
-//! What a session at a terminal is told, and what it tells: what its lines say, its history, moves in it, refusals, the files that differ from the disk's,
-//! and its commands.
+//! The words of a session at a terminal, in and out: the meaning of its lines, its history, moves in it, refusals, the files that differ from the
+//! disk's, and its commands.
 #![tactic(auto)]
 
 mod commands;

@@ -1,4 +1,4 @@
-//! What is told of changes that were undone or redone.
+//! The text on changes that were undone or redone.
 
 ghost use Rattle.std.specs.Prelude.{◌≡◌, ◌++◌, OnOk, codes, drop, flat_map, reverse, take};
 ghost use Rattle.aatry_session_told.specs.History.{between, move_line, moves_text, ok_line};
@@ -6,7 +6,7 @@ ghost use Rattle.aatry_session_told.specs.History.{between, move_line, moves_tex
 use aa_bytes::Sequence;
 use std::alloc::AllocError;
 
-// The first texts, as many as `count`, or all where there are fewer.
+// The first `count` texts; all where there are fewer.
 fn first_texts(texts: &[Sequence<u8>], count: usize) -> &[Sequence<u8>]
     ensures { result.now ≡ take count texts.now }
 {
@@ -17,7 +17,7 @@ fn first_texts(texts: &[Sequence<u8>], count: usize) -> &[Sequence<u8>]
     }
 }
 
-/// The texts behind the first ones, as many as `count`, or none where there are fewer.
+/// The texts after the first `count`; none where there are fewer.
 pub fn texts_behind(texts: &[Sequence<u8>], count: usize) -> &[Sequence<u8>]
     ensures { result.now ≡ drop count texts.now }
 {
@@ -35,7 +35,7 @@ fn between(texts: &[Sequence<u8>], low: usize, high: usize) -> &[Sequence<u8>]
     texts_behind(first_texts(texts, high), low)
 }
 
-// Puts a line that tells a change behind a text, in these words.
+// Appends a line on a change to a text, in these words.
 fn push_move(out: &mut Vec<u8>, words: &str, text: &[u8]) -> Result<(), AllocError>
     ensures { OnOk result (out.new.items ≡ out.old.items ++ move_line words.now text.now) }
 {
@@ -45,7 +45,7 @@ fn push_move(out: &mut Vec<u8>, words: &str, text: &[u8]) -> Result<(), AllocErr
     Ok(())
 }
 
-// Puts a line for each change that was redone behind a text, the first one first.
+// Appends a line for each change that was redone to a text, the first one first.
 fn push_redone(out: &mut Vec<u8>, texts: &[Sequence<u8>]) -> Result<(), AllocError>
     ensures { OnOk result (out.new.items ≡ out.old.items ++ flat_map (move_line (codes "redone: ")) texts.now) }
 {
@@ -55,7 +55,7 @@ fn push_redone(out: &mut Vec<u8>, texts: &[Sequence<u8>]) -> Result<(), AllocErr
     Ok(())
 }
 
-// Puts a line for each change that was undone behind a text, the last one first.
+// Appends a line for each change that was undone to a text, the last one first.
 fn push_undone(out: &mut Vec<u8>, texts: &[Sequence<u8>]) -> Result<(), AllocError>
     ensures { OnOk result (out.new.items ≡ out.old.items ++ flat_map (move_line (codes "undone: ")) (reverse texts.now)) }
 {
@@ -67,12 +67,12 @@ fn push_undone(out: &mut Vec<u8>, texts: &[Sequence<u8>]) -> Result<(), AllocErr
     Ok(())
 }
 
-/// Puts what is told of an accepted command behind a text: the changes that it undid, the last one first, or those that it redid, the first one first, or
-/// `ok`. `from` is how many changes were done before it, `to` how many are done now.
+/// Appends the reply to an accepted command to a text: the changes that it undid, the last one first, or those that it redid, the first one first,
+/// or `ok`. `from` is how many changes were done before it, `to` how many are done now.
 ///
 /// # Errors
 ///
-/// Where memory runs out. A beginning may have been put then.
+/// Where memory runs out. A beginning may have been appended then.
 pub fn push_moves(
     out: &mut Vec<u8>,
     texts: &[Sequence<u8>],
@@ -90,7 +90,7 @@ pub fn push_moves(
     }
 }
 
-// Puts a line `ok` behind a text.
+// Appends a line `ok` to a text.
 fn push_ok(out: &mut Vec<u8>) -> Result<(), AllocError>
     ensures { OnOk result (out.new.items ≡ out.old.items ++ ok_line) }
 {

@@ -1,4 +1,4 @@
-//! What is told of a line that is refused.
+//! The reply to a line that is refused.
 
 ghost use Rattle.std.specs.Prelude.{◌≡◌, ◌++◌, ℕ, List, [], None, OnOk, codes};
 ghost use Rattle.aa_set_commands.specs.Refusal.{number_of};
@@ -27,11 +27,11 @@ fn question_words(alloc: Global, fault: WordFault<'_>) -> Result<Vec<u8>, AllocE
     Ok(words)
 }
 
-/// Puts what is told of words behind a text that are no question: what is wrong with them, and the number of the refusal that goes with it.
+/// Appends the refusal of words that are no question to a text: what is wrong with them, and the number of the refusal for that.
 ///
 /// # Errors
 ///
-/// Where memory runs out. A beginning may have been put then.
+/// Where memory runs out. A beginning may have been appended then.
 pub fn push_no_question(
     alloc: Global,
     fault: WordFault<'_>,
@@ -49,7 +49,7 @@ pub fn push_no_question(
     push_fault(out, b"refused", text, refusal.number())
 }
 
-// Puts what is told of a refusal behind a text, in these words.
+// Appends a refusal to a text, in these words.
 fn push_in_words(
     alloc: Global,
     files: &Files,
@@ -73,7 +73,7 @@ fn push_in_words(
     )
 }
 
-// The file that a place stands in, by how many of the files came before it, where that wasn't read.
+// The file of a place, by how many of the files came before it, where that wasn't read.
 fn unread_at(files: &Files, place: Option<Place>) -> Option<usize>
     ensures { result ≡ unread_at files.now place }
 {
@@ -83,7 +83,7 @@ fn unread_at(files: &Files, place: Option<Place>) -> Option<usize>
     }
 }
 
-// Puts behind a text that a file wasn't read, by how many of the files came before it.
+// Appends that a file wasn't read to a text, by how many of the files came before it.
 fn push_unread(
     alloc: Global,
     files: &Files,
@@ -99,7 +99,7 @@ fn push_unread(
     push_fault(out, &path, "the file wasn't read", number)
 }
 
-// Puts what is told of a refusal that stands in no file that wasn't read.
+// Appends a refusal to a text that is in no file which wasn't read.
 fn push_plain(
     alloc: Global,
     language: Language,
@@ -114,12 +114,12 @@ fn push_plain(
     push_in_words(alloc, files, base, words.as_str(), refusal, out)
 }
 
-/// Puts what is told of a refusal behind a text: where it has a place in a file, as a check of that file, which is read by a language, tells it; but
-/// where that file wasn't read, that it wasn't, without why.
+/// Appends a refusal to a text: where it has a place in a file, like a check of that file, which is read by a language, reports it; but where that
+/// file wasn't read, that it wasn't, without the reason.
 ///
 /// # Errors
 ///
-/// Where memory runs out. A beginning may have been put then.
+/// Where memory runs out. A beginning may have been appended then.
 pub fn push_refusal(
     alloc: Global,
     language: Language,

@@ -1,4 +1,4 @@
-//! What the lines of a session say.
+//! The meaning of the lines of a session.
 
 ghost use Rattle.std.specs.Prelude.{◌≡◌, ◌<◌, [], map};
 ghost use Rattle.aa_set_commands.specs.Words.{words_of};
@@ -11,30 +11,30 @@ use aatry_questions::{WordFault, question_fault, read};
 // The most words of a question.
 const MOST_ASKED: usize = 5;
 
-/// What a line of a session says.
+/// The meaning of a line of a session.
 #[derive(Clone, Copy)]
 pub enum Saying<'a> {
-    /// Nothing to the session itself: it is for the machine over commands.
+    /// No command of the session itself: it is for the machine over commands.
     Command,
-    /// To tell the commands.
+    /// Print the commands.
     Help,
-    /// To tell the history.
+    /// Print the history.
     History,
-    /// To have the changes of the loading in the history, too.
+    /// Include the changes of the loading in the history.
     Widen,
-    /// To end the session.
+    /// End the session.
     Quit,
-    /// To read the files anew.
+    /// Read the files anew.
     Reload,
-    /// To tell what is loaded, and which files differ from the disk's.
+    /// Print what is loaded, and which files differ from the disk's.
     Status,
-    /// To tell the rules behind the answer to a question.
+    /// Print the rules that decide the answer to a question.
     Why(Question<'a>),
-    /// To tell what is wrong with words behind `why` or `ask` that are no question.
+    /// Print what is wrong with words after `why` or `ask` that are no question.
     NoQuestion(WordFault<'a>),
 }
 
-// What one word says.
+// The meaning of one word.
 fn word_saying(word: &[u8]) -> Saying<'_>
     ensures said { seen_saying result ≡ word_saying word.now }
     ensures askable { IsAskable result }
@@ -56,7 +56,7 @@ fn word_saying(word: &[u8]) -> Saying<'_>
     }
 }
 
-// What the words behind `why` say.
+// The meaning of the words after `why`.
 fn why<'a>(words: &[&'a [u8]]) -> Saying<'a>
     ensures said { seen_saying result ≡ why_saying (map (λ word. word.now) words.now) }
     ensures askable { IsAskable result }
@@ -67,7 +67,7 @@ fn why<'a>(words: &[&'a [u8]]) -> Saying<'a>
     }
 }
 
-// What the words behind `ask` say: they are for the machine, but where they are no question.
+// The meaning of the words after `ask`: they are for the machine, unless they are no question.
 fn ask<'a>(words: &[&'a [u8]]) -> Saying<'a>
     ensures said { seen_saying result ≡ ask_saying (question_fault (map (λ word. word.now) words.now)) }
     ensures askable { IsAskable result }
@@ -78,7 +78,7 @@ fn ask<'a>(words: &[&'a [u8]]) -> Saying<'a>
     }
 }
 
-// What a first word and others behind it say.
+// The meaning of a first word and the words after it.
 fn words_saying<'a>(first: &[u8], rest: &[&'a [u8]]) -> Saying<'a>
     ensures said { seen_saying result ≡ words_saying first.now (map (λ word. word.now) rest.now) }
     ensures askable { IsAskable result }
@@ -92,7 +92,7 @@ fn words_saying<'a>(first: &[u8], rest: &[&'a [u8]]) -> Saying<'a>
     }
 }
 
-// What the words of a line say.
+// The meaning of the words of a line.
 fn saying_of<'a>(words: &[&'a [u8]]) -> Saying<'a>
     ensures said { seen_saying result ≡ saying_of (map (λ word. word.now) words.now) }
     ensures askable { IsAskable result }
@@ -104,7 +104,7 @@ fn saying_of<'a>(words: &[&'a [u8]]) -> Saying<'a>
     }
 }
 
-// What a line that isn't too long says.
+// The meaning of a line that isn't too long.
 fn line_saying(line: &[u8]) -> Saying<'_>
     ensures said { seen_saying result ≡ line_saying (words_of line.now) }
     ensures askable { IsAskable result }
@@ -115,7 +115,7 @@ fn line_saying(line: &[u8]) -> Saying<'_>
     }
 }
 
-/// What a line of a session says.
+/// The meaning of a line of a session.
 pub fn saying_in(line: &[u8]) -> Saying<'_>
     ensures said { seen_saying result ≡ saying_in line.now }
     ensures askable { IsAskable result }

@@ -1,4 +1,4 @@
--- What contracts see of the code's changes, and of those that have them.
+-- What contracts see of the code's changes, and of the names that have them.
 use Rattle.std.specs.Prelude.{ℕ, List, map, Vec}
 use Rattle.std.specs.Borrow.{Bor}
 use Rattle.std.specs.declared.alloc.Global.{Global}
@@ -9,11 +9,11 @@ use Rattle.aatry_shared.specs.declared.sharing.Group.{Group as CodeGroup}
 abbrev pub seen_change : CodeChange → Change
 seen_change change = record { side = change.side; place = change.place; text = change.text.items }
 
--- names that are lent
+-- names that are borrowed
 abbrev pub seen_names : List (Bor (List ℕ)) → List (List ℕ)
 seen_names names = map (λ name. name.now) names
 
--- an entry of the table: a change, and the names of those that have it
+-- an entry of the table: a change, and the names that have it
 abbrev pub Entry : Type 0
 Entry = CodeChange × Vec (Bor (List ℕ)) Global
 
@@ -23,6 +23,6 @@ seen_entry entry = record { change = seen_change entry.0; names = seen_names ent
 abbrev pub seen_entries : List Entry → List Group
 seen_entries entries = map seen_entry entries
 
--- a group that is lent
+-- a group that is borrowed
 abbrev pub seen_group : CodeGroup → Group
 seen_group group = record { change = seen_change group.change.now; names = seen_names group.names.now }

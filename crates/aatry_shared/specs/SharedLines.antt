@@ -1,4 +1,4 @@
--- What is told of changes that several profiles, children and hats have in common (docs/aatry.md).
+-- The report on changes that several profiles, children and hats have in common (docs/aatry.md).
 use Rattle.std.specs.Prelude.{ℕ, if◌then◌else◌, List, [], ◌∷◌, ◌++◌, codes, flat_map, length, Some}
 use Rattle.std.specs.Fmt.{decimal}
 use Rattle.serde_json.specs.Data.{Members}
@@ -14,7 +14,7 @@ use Rattle.aatry_shared.specs.declared.side.Side.{Side}
 use Rattle.aatry_shared.specs.declared.side.Side.TheVariants.{New, Old}
 use Rattle.aatry_why_lines.specs.Lines.{where_text, with_where}
 
--- a name behind others
+-- a name after other names
 abbrev pub next_name : List ℕ → List ℕ
 next_name name = codes ", " ++ shown name
 
@@ -27,21 +27,21 @@ names_text (name ∷ names) = shown name ++ flat_map next_name names
 abbrev pub sharers_line : List (List ℕ) → List ℕ
 sharers_line names = codes "  in " ++ decimal (length names) ++ codes " profiles: " ++ names_text names ++ line_feed ∷ []
 
--- a change in the files of its side, as a line: where the rule stands, and how it is told
+-- a change in the files of its side, as a line: where the rule is written, and its text
 abbrev pub change_line : PolicyFiles → Change → List ℕ
 change_line below change = sign change.side ++ where_text below [] (Some change.place) ++ shown change.text ++ line_feed ∷ []
 
--- the same, and below it who has it
+-- a change, and below it the names that have it
 abbrev pub shared_line : PolicyFiles → Group → List ℕ
 shared_line below group = change_line below group.change ++ sharers_line group.names
 
--- the same as a record
+-- the record of a change and the names that have it
 abbrev pub shared_record : PolicyFiles → Group → Members
 shared_record below group =
     with_text (codes "text") group.change.text
     (with_where below [] (Some group.change.place) (with_texts (codes "profiles") group.names (record_of (kind group.change.side))))
 
--- what is told of it
+-- the lines or record of a change and the names that have it
 abbrev pub shared_text : Form → PolicyFiles → Group → List ℕ
 shared_text Lines below group = shared_line below group
 shared_text Records below group = record_line (shared_record below group)
@@ -51,10 +51,10 @@ abbrev pub files_of : PolicyFiles → PolicyFiles → Side → PolicyFiles
 files_of old new Old = old
 files_of old new New = new
 
--- what is told of a change, if several have it
+-- the lines or record of a change, if several have it
 abbrev pub group_text : Form → PolicyFiles → PolicyFiles → Group → List ℕ
 group_text form old new group = if is_shared_group group then shared_text form (files_of old new group.change.side) group else []
 
--- what is told of changes, of each that several have once
+-- the report on changes, each once that several have
 abbrev pub shared_lines : Form → PolicyFiles → PolicyFiles → List Group → List ℕ
 shared_lines form old new groups = flat_map (group_text form old new) groups

@@ -10,8 +10,8 @@ use Rattle.aatry_shared.specs.PartFeatures.{feature_text, place_at}
 use Rattle.aatry_shared.specs.declared.side.Side.{Side}
 use Rattle.aatry_shared.specs.declared.side.Side.TheVariants.{New, Old}
 
--- A rule that one side of a part has alone: which side that is, where the rule is written, and how it is told. What two parts have at one place
--- stands in a file that both include.
+-- A rule that only one side of a part has: which side that is, where the rule is written, and its text. What two parts have at one place is in a
+-- file that both include.
 pub record Change : Type 0 where
   pub side : Side
   pub place : Place
@@ -22,12 +22,12 @@ same_side Old Old = true
 same_side New New = true
 same_side _ _ = false
 
--- the same side has the same rule alone, told alike and written at one place
+-- only the same side has the same rule, with the same text and written at one place
 abbrev pub same_change : Change → Change → Bool
 same_change one other =
     same_side one.side other.side && (one.place.file == other.place.file) && (one.place.at == other.place.at) && bytes_eq one.text other.text
 
--- the change that a feature of a part on one side is, if it is a rule whose place is known
+-- the change of a feature of a part on one side, if it is a rule whose place is known
 abbrev pub change_at : Part → Side → Feature → Option Change
 change_at part side (OfRule rule number) =
     option_map (λ (place : Place). record { side = side; place = place; text = feature_text (OfRule rule number) }) (place_at part.places number)
@@ -52,14 +52,14 @@ ends_in (first ∷ names) name = if is_empty names then bytes_eq first name else
 abbrev pub with_name : List (List ℕ) → List ℕ → List (List ℕ)
 with_name names name = if ends_in names name then names else names ++ name ∷ []
 
--- One more part that has a change: it stands with those that have the same one, and else behind all.
+-- One more part that has a change: added to those that have the same one, or else after all changes.
 abbrev pub with_having : Having → List Group → List Group
 with_having having [] = record { change = having.change; names = having.name ∷ [] } ∷ []
 with_having having (group ∷ groups) =
     if same_change having.change group.change then record { change = group.change; names = with_name group.names having.name } ∷ groups
     else group ∷ with_having having groups
 
--- changes that parts have, one part behind the other, behind those that are gathered
+-- changes that parts have, one part after the other, after those that are gathered
 abbrev pub gathered_behind : List Group → List Having → List Group
 gathered_behind groups [] = groups
 gathered_behind groups (having ∷ havings) = gathered_behind (with_having having groups) havings
@@ -68,7 +68,7 @@ gathered_behind groups (having ∷ havings) = gathered_behind (with_having havin
 abbrev pub gathered : List Having → List Group
 gathered havings = gathered_behind [] havings
 
--- the names of those that have a change
+-- the names that have a change
 abbrev pub names_of : Change → List Group → List (List ℕ)
 names_of change [] = []
 names_of change (group ∷ groups) = if same_change change group.change then group.names else names_of change groups

@@ -1,11 +1,11 @@
--- The two folders that are compared, and how a line is told that one of them has alone.
+-- The two folders that are compared, and how a line is printed that only one of them has.
 use Rattle.std.specs.Prelude.{◌≡◌, ℕ, List, codes}
 use Rattle.aatry_shared.specs.declared.side.Side.{Side}
 use Rattle.aatry_shared.specs.declared.side.Side.TheVariants.{New, Old}
 use Rattle.aatry_shared.specs.declared.side.Finders.{Finders}
 use Rattle.aatry_policy.specs.FolderParts.{FolderParts}
 
--- the sign before it, in lines
+-- the sign before such a line
 abbrev pub sign : Side → List ℕ
 sign Old = codes "- "
 sign New = codes "+ "

@@ -1,4 +1,4 @@
--- What is about the code: changes as keys of a table, and what is told of one in its turn.
+-- Definitions about the code: changes as keys of a table, and the report on one after another.
 pub mod Keys
 pub mod SameKeys
 pub mod Steps

@@ -1,4 +1,4 @@
-//! The rules behind a question that two folders answer otherwise.
+//! The rules by which two folders answer a question differently.
 
 ghost use Rattle.std.specs.Prelude.{◌≡◌, ◌++◌, IfOk, OnOk, Some, map, option_map};
 ghost use Rattle.aa_explain_diff.specs.Features.{seen_feature};
@@ -16,7 +16,7 @@ use aatry_policy::{FolderParts, Part, part_of};
 use aatry_report::Teller;
 use std::alloc::{AllocError, Global};
 
-// The rules of a part that cover something of what is asked for; none where there is no part.
+// The rules of a part that cover some of the request's needs; none where there is no part.
 fn covering_of<'a>(
     alloc: Global,
     part: Option<&Part<'a>>,
@@ -31,7 +31,7 @@ fn covering_of<'a>(
     }
 }
 
-// Appends those of a part's rules that others lack to a text.
+// Appends those of a part's rules that the other part lacks to a text.
 fn push_lacking(
     teller: Teller,
     own: &SidePart<'_>,
@@ -47,7 +47,7 @@ fn push_lacking(
     push_lines(&mut finder, teller, own, "  ", &found, out)
 }
 
-// The same of a part, if there is one.
+// Appends those of a part's rules that the other part lacks to a text, if there is a part.
 fn push_causes_of(
     teller: Teller,
     folder: &FolderParts<'_>,
@@ -69,10 +69,10 @@ fn push_causes_of(
     }
 }
 
-/// Appends the rules that make a difference between two folders to what is asked, of who has a full name, to a text: those of the old part that cover
-/// something of what is asked for and that the new one lacks, and those of the new one that the old one lacks, each with the place where it is
-/// written. As lines these stand behind `  - ` and `  + `; as records they are of the kinds `less` and `more`, with who asks (`name`) and the
-/// rule (`text`). Where a folder has nobody of the name, it has no such rule.
+/// Appends the rules of a full name that make a difference between two folders to a request, to a text: those of the old part that cover some of the
+/// request's needs and that the new one lacks, and those of the new one that the old one lacks, each with the place where it is written. As lines
+/// these follow `  - ` and `  + `; as records they are of the kinds `less` and `more`, with the full name (`name`) and the rule (`text`). Where a
+/// folder doesn't have the name, it has no such rule.
 ///
 /// # Errors
 ///

@@ -17,15 +17,15 @@ use aatry_policy::Part;
 use std::alloc::{AllocError, Global};
 use std::hash::{Hash, Hasher};
 
-/// A rule that one side of a profile, child or hat has alone. Two are the same (`==`) where one side has a rule alone that is written at one place, and is
-/// told alike.
+/// A rule that only one side of a profile, child or hat has. Two are equal (`==`) where they are of the same side, and the rules are written at one
+/// place, and printed alike.
 #[derive(Drop)]
 pub struct Change {
     /// The side that has it.
     pub side: Side,
     /// Where it is written, in the files of that side.
     pub place: Place,
-    /// How it is told.
+    /// How it is printed.
     pub text: Vec<u8>,
 }
 
@@ -69,7 +69,7 @@ impl Hash for Change {
     }
 }
 
-/// The change that a feature is which one side of a part has alone, if it is a rule whose place is known.
+/// The change of a feature that only one side of a part has, if it is a rule whose place is known.
 ///
 /// # Errors
 ///

@@ -1,4 +1,4 @@
-//! What is told of the features of a part that another lacks.
+//! The report on the features of a part that another part lacks.
 
 ghost use Rattle.std.specs.Prelude.{◌≡◌, ◌++◌, IfOk, OnOk, map};
 ghost use Rattle.aa_explain_diff.specs.Features.{seen_feature};
@@ -14,7 +14,7 @@ use aatry_report::{Form, Record, Teller, push_shown};
 use aatry_why_lines::{Finder, push_where, put_where};
 use std::alloc::AllocError;
 
-// Appends where the rule stands that a feature is to a text, if it is one.
+// Appends where the rule of a feature is written to a text, if it is one.
 fn push_where_of(
     finder: &mut Finder<'_>,
     own: &SidePart<'_>,
@@ -37,7 +37,7 @@ fn push_where_of(
     }
 }
 
-// Puts it into a record.
+// Puts where the rule of a feature is written into a record, if it is one.
 fn put_where_of(
     finder: &mut Finder<'_>,
     own: &SidePart<'_>,
@@ -60,7 +60,7 @@ fn put_where_of(
     }
 }
 
-// Appends a feature to a text as a line, behind blanks and a sign.
+// Appends a feature to a text as a line, indented and with a sign.
 fn push_line(
     finder: &mut Finder<'_>,
     own: &SidePart<'_>,
@@ -101,7 +101,7 @@ fn line_record(
     Ok(made)
 }
 
-// Appends what is told of a feature to a text.
+// Appends a feature to a text, as a line or a record.
 fn push_told(
     finder: &mut Finder<'_>,
     teller: Teller,
@@ -121,9 +121,9 @@ fn push_told(
     }
 }
 
-/// Appends features of a part that another lacks to a text. As a line each stands behind these blanks and the side's sign, a rule with where it stands. As a
-/// record of the kind `less` or `more` it has the part's full name (`name`), of a rule where it stands (`aatry_why_lines::put_where`), and how it is told
-/// (`text`). They are features of this part, and `finder` finds places in its folder.
+/// Appends features of a part that another part lacks to a text. As a line each follows these blanks and the side's sign, a rule with where it is
+/// written. As a record of the kind `less` or `more` it has the part's full name (`name`), of a rule where it is written
+/// (`aatry_why_lines::put_where`), and its text (`text`). The features are this part's, and `finder` finds places in its folder.
 ///
 /// # Errors
 ///

@@ -5,8 +5,8 @@ ghost use Rattle.std.specs.List.{Contains};
 ghost use Rattle.aatry_shared.specs.Sharing.{Group, Having, are_several, gathered, is_shared, shared};
 ghost use Rattle.aatry_shared.specs.SharingLaws.{IsNamedOnce};
 
-/// Whatever changes profiles, children and hats have: where one that somebody has is shared, it stands among the shared ones exactly once, and names who has
-/// it. Each that stands there is one that two or more have, each of whom has it that it names.
+/// Whatever changes profiles, children and hats have: where one of them is shared, it is among the shared ones exactly once, and names what has it.
+/// Each shared change is one that two or more have, and each that it names has it.
 pub fn what_is_shared_is_told_once()
     ensures each { (havings : List Having) (having : Having)
         → Contains havings having

@@ -1,5 +1,5 @@
-//! The changes that several profiles of a folder of policy have in common: what one side of a profile has alone, which rule it is and how it is told, and who
-//! else has it; and the rules that make a difference to a question.
+//! The changes that several profiles of a folder of policy have in common: what only one side of a profile has, which rule it is and how it is
+//! printed, and which other profiles have it; and the rules that make a difference to a question.
 #![tactic(auto)]
 
 mod causes;

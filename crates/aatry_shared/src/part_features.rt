@@ -1,4 +1,4 @@
-//! What a part has, one by one, and how each of that is told.
+//! What a part has, one by one, and how each of that is printed.
 
 ghost use Rattle.std.specs.Prelude.{◌≡◌, ◌++◌, IfOk, OnOk, map};
 ghost use Rattle.aa_explain_diff.specs.Features.{seen_feature};
@@ -23,7 +23,7 @@ fn push_mode(mode: Option<Mode>, out: &mut Vec<u8>) -> Result<(), AllocError>
     }
 }
 
-// Appends how a feature is told to a text.
+// Appends a feature to a text.
 fn push_feature(feature: Feature<'_>, out: &mut Vec<u8>) -> Result<(), AllocError>
     ensures { OnOk result (out.new.items ≡ out.old.items ++ feature_text (seen_feature feature.entry)) }
 {
@@ -37,7 +37,7 @@ fn push_feature(feature: Feature<'_>, out: &mut Vec<u8>) -> Result<(), AllocErro
     }
 }
 
-/// How a feature is told: by the word of a mode or a flag, by `disabled`, or as `show` shows it.
+/// A feature as it is printed: by the word of a mode or a flag, by `disabled`, or as `show` prints it.
 ///
 /// # Errors
 ///
@@ -50,7 +50,7 @@ pub fn feature_text(alloc: Global, feature: Feature<'_>) -> Result<Vec<u8>, Allo
     Ok(text)
 }
 
-/// Where the rule of a number stands, if that is known.
+/// Where the rule of a number is written, if that is known.
 pub fn place_at(places: &[Option<Place>], number: usize) -> Option<Place>
     ensures { result ≡ place_at places.now number }
 {
@@ -60,7 +60,7 @@ pub fn place_at(places: &[Option<Place>], number: usize) -> Option<Place>
     }
 }
 
-// Appends a rule by its number to other features, if it covers something of what is asked for.
+// Appends a rule by its number to `features`, if it covers some of the request's needs.
 fn push_if_covering<'a>(
     request: &Request<'_>,
     number: usize,
@@ -76,7 +76,7 @@ fn push_if_covering<'a>(
     Ok(())
 }
 
-/// Those of some rules that cover something of what is asked for, by their numbers.
+/// Those of some rules that cover some of the request's needs, by their numbers.
 ///
 /// # Errors
 ///

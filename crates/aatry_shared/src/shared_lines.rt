@@ -1,4 +1,4 @@
-//! What is told of changes that several profiles have in common.
+//! The report on changes that several profiles have in common.
 
 ghost use Rattle.std.specs.Prelude.{◌≡◌, ◌++◌, IfOk, OnOk, flat_map, slice_get};
 ghost use Rattle.aatry_report.specs.SeenRecord.{seen_record};
@@ -13,7 +13,7 @@ use aatry_report::{Form, Record, Teller, push_number, push_shown};
 use aatry_why_lines::{Finder, push_where, put_where};
 use std::alloc::AllocError;
 
-// Appends names to a text, each behind a comma.
+// Appends names to a text, each after a comma.
 fn push_next_names(names: &[&[u8]], out: &mut Vec<u8>) -> Result<(), AllocError>
     ensures { OnOk result (out.new.items ≡ out.old.items ++ flat_map next_name (seen_names names.now)) }
 {
@@ -39,7 +39,7 @@ fn push_names(names: &[&[u8]], out: &mut Vec<u8>) -> Result<(), AllocError>
     }
 }
 
-// Appends the line to a text that says how many have a change, and which.
+// Appends the line to a text that says how many profiles, children and hats have a change, and which.
 fn push_sharers(names: &[&[u8]], out: &mut Vec<u8>) -> Result<(), AllocError>
     ensures { OnOk result (out.new.items ≡ out.old.items ++ sharers_line (seen_names names.now)) }
 {
@@ -66,7 +66,7 @@ fn push_change(
     Ok(())
 }
 
-// Appends a change and who has it to a text, as lines.
+// Appends a change and the names that have it to a text, as lines.
 fn push_line(
     finder: &mut Finder<'_>,
     group: &Group<'_, '_>,
@@ -79,7 +79,7 @@ fn push_line(
     push_sharers(group.names, out)
 }
 
-// The same as a record.
+// The record of a change and of the names that have it.
 fn shared_record(finder: &mut Finder<'_>, group: &Group<'_, '_>) -> Result<Record, AllocError>
     ensures told { IfOk result (λ made. seen_record made ≡ shared_record finder.old (seen_group group.now)) }
     ensures same { finder.new ≡ finder.old }
@@ -92,7 +92,7 @@ fn shared_record(finder: &mut Finder<'_>, group: &Group<'_, '_>) -> Result<Recor
     Ok(made)
 }
 
-// Appends what is told of a change and of who has it to a text.
+// Appends a change and the names that have it to a text, as lines or a record.
 fn push_text(
     finder: &mut Finder<'_>,
     teller: Teller,
@@ -108,7 +108,7 @@ fn push_text(
     }
 }
 
-// The same, in the files of its side.
+// Appends a change and the names that have it to a text, by the files of its side.
 fn push_by_side(
     finders: &mut Finders<'_>,
     teller: Teller,
@@ -124,7 +124,7 @@ fn push_by_side(
     }
 }
 
-// The same, if several have it.
+// Appends a change and the names that have it to a text, if there are several.
 fn push_group(
     finders: &mut Finders<'_>,
     teller: Teller,
@@ -141,7 +141,7 @@ fn push_group(
     }
 }
 
-// The same of the change at a place, if there is one.
+// Appends the change at an index, if there is one, and the names that have it to a text, if there are several.
 fn push_group_at(
     finders: &mut Finders<'_>,
     teller: Teller,
@@ -159,9 +159,9 @@ fn push_group_at(
     }
 }
 
-/// Appends what is told of the changes to a text that two or more profiles, children and hats have, in the order in which they first came, each once. As a
-/// line that stands behind the side's sign, with where the rule stands, and below it how many have it and their full names. As a record of the kind
-/// `less` or `more` it has these names (`profiles`), where the rule stands (`aatry_why_lines::put_where`), and how it is told (`text`).
+/// Appends the changes that two or more profiles, children and hats have to a text, in the order in which they first came, each once. As a line it
+/// follows the side's sign, with where the rule is written, and below it how many have it and their full names. As a record of the kind `less` or
+/// `more` it has these names (`profiles`), where the rule is written (`aatry_why_lines::put_where`), and its text (`text`).
 ///
 /// # Errors
 ///

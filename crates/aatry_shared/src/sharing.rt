@@ -9,7 +9,7 @@ use indexmap::IndexMap;
 use std::alloc::{AllocError, Global};
 use std::marker::Model;
 
-/// A change, and those that have it, lent.
+/// A change, and the names that have it, borrowed.
 #[derive(Clone, Copy)]
 pub struct Group<'t, 'a> {
     /// The change.
@@ -18,11 +18,11 @@ pub struct Group<'t, 'a> {
     pub names: &'t [&'a [u8]],
 }
 
-/// Changes in the order in which they first came, each once, with the full names of the profiles, children and hats that have it. Contracts see their
-/// list.
+/// Changes in the order in which they first came, each once, with the full names of the profiles, children and hats that have it. Contracts see
+/// their list.
 #[derive(Drop)]
 pub struct Sharing<'a> {
-    // The allocator of names that begin.
+    // The allocator of new lists of names.
     alloc: Global,
     groups: IndexMap<Change, Vec<&'a [u8]>>,
 }
@@ -47,7 +47,7 @@ fn ends_in(names: &[&[u8]], name: &[u8]) -> bool
     }
 }
 
-// One name more, unless it is the last one.
+// Appends a name, unless it is the last one.
 fn push_name<'a>(names: &mut Vec<&'a [u8]>, name: &'a [u8]) -> Result<(), AllocError>
     ensures { OnOk result (seen_names names.new.items ≡ with_name (seen_names names.old.items) name.now) }
 {
@@ -76,8 +76,8 @@ impl<'a> Sharing<'a> {
         }
     }
 
-    /// One more that has a change, by its full name: it stands with those that have the same one, and else behind all. One that comes twice, with no other
-    /// between, stands there once.
+    /// Adds one more name that has a change: to the names of the same change, if there are any, and else after all changes. A name that comes twice,
+    /// with no other in between, is added once.
     ///
     /// # Errors
     ///
@@ -91,7 +91,7 @@ impl<'a> Sharing<'a> {
         }
     }
 
-    // The first that has a change.
+    // Adds a change with the first name that has it.
     fn begin(&mut self, name: &'a [u8], change: Change) -> Result<(), AllocError>
         requires { has_change self.old (seen_change change) ≡ false }
         ensures { OnOk result (self.new ≡ with_having (record { name = name.now; change = seen_change change }) self.old) }
@@ -119,7 +119,7 @@ impl<'a> Sharing<'a> {
         self.groups.len()
     }
 
-    /// The change at a place, from 0, with those that have it, if there are as many. It takes no memory.
+    /// The change at an index, from 0, with the names that have it, if there are as many. It takes no memory.
     pub fn get(&self, place: usize) -> Option<Group<'_, 'a>>
         ensures { option_map seen_group result ≡ slice_get self.now place }
     {

@@ -37,11 +37,11 @@ pub struct PartPair<'a> {
     pub new: &'a FolderParts<'a>,
     /// The part of the old folder.
     pub part: &'a Part<'a>,
-    /// The one of the new folder.
+    /// The part of the new folder.
     pub other: &'a Part<'a>,
 }
 
-/// The sign before a line that one folder has alone.
+/// The sign before a line that only one folder has.
 pub fn sign_of(side: Side) -> &'static str
     ensures { result.now ≡ sign side }
 {
@@ -61,7 +61,7 @@ pub fn kind_of(side: Side) -> &'static str
     }
 }
 
-/// What finds the places of rules in both of two folders that are compared.
+/// The finders of the places of rules in both of two folders that are compared.
 #[derive(Drop)]
 pub struct Finders<'a> {
     /// In the old one.
@@ -70,14 +70,14 @@ pub struct Finders<'a> {
     pub of_new: Finder<'a>,
 }
 
-/// What finds the places of rules in a folder. It takes no memory.
+/// The finder of the places of rules in a folder. It takes no memory.
 pub fn finder_in<'a>(alloc: Global, folder: &FolderParts<'a>) -> Finder<'a>
     ensures { result ≡ (seen_folder folder.now).below }
 {
     Finder::new(alloc, folder.below)
 }
 
-/// What finds them in both of two folders. It takes no memory.
+/// The finders of the places of rules in both of two folders. It takes no memory.
 pub fn finders_in<'a>(alloc: Global, old: &FolderParts<'a>, new: &FolderParts<'a>) -> Finders<'a>
     ensures { FindIn (seen_folder old.now) (seen_folder new.now) result }
 {

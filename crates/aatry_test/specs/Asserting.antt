@@ -1,4 +1,4 @@
--- What is told of an assertion by a policy set, where it doesn't hold.
+-- The report on an assertion by a policy set, where it doesn't hold.
 use Rattle.std.specs.Prelude.{◌≡◌, ℕ, Bool, false, if◌then◌else◌, List, [], ◌++◌, Option, None, Some, codes, flat_map}
 use Rattle.std.specs.List.{list_all}
 use Rattle.aa_decide_ready.specs.Entries.{Loaded}
@@ -12,26 +12,26 @@ use Rattle.aatry_claims.specs.Patterns.{asked_patterns}
 use Rattle.aatry_claims.specs.Sentences.{found_line, is_held}
 use Rattle.aatry_policy.specs.Parts.{Part, set_parts}
 
--- what is told of somebody of whom a claim doesn't hold: the line that `aatry never` or `always` tells
+-- the line on a name for which a claim doesn't hold: that of `aatry never` or `always`
 abbrev pub unheld_line : Claimed → Found → List ℕ
 unheld_line claimed found = if is_held found.finding then [] else codes "+ " ++ found_line claimed found
 
 abbrev pub unheld_lines : Claimed → List Found → List ℕ
 unheld_lines claimed found = flat_map (unheld_line claimed) found
 
--- it holds of all of them
+-- a claim holds for all of them
 abbrev pub all_hold : List Found → Bool
 all_hold found = list_all (λ found. is_held found.finding) found
 
--- A claim of paths of these patterns, asked of profiles, children and hats: what is found is right, it holds where it holds of all who are asked about,
--- and a text tells of whom it doesn't.
+-- A claim on the paths of these patterns, asked of profiles, children and hats: the findings are right, it holds where it holds for all who are
+-- asked about, and a text has those for whom it doesn't.
 pub record IsAskedOf (parts : List Part) (claimed : Claimed) (patterns : List (List ℕ)) (holds : Bool) (told : List ℕ) : Type 0 where
   pub found : List Found
   pub right : AreFound (asked_of claimed.claim claimed.words patterns) usual_limit parts (names_or claimed.words.whom parts) found
   pub decided : holds ≡ all_hold found
   pub lines : told ≡ unheld_lines claimed found
 
--- what is told of an assertion that claims nothing, and of one whose pattern no rule can have
+-- the lines on an assertion that claims nothing, and on one whose pattern no rule can have
 abbrev pub nothing_line : List ℕ
 nothing_line = codes "+ nothing is asserted: behind ! come never or always, ACCESS, OWNED, PATTERN, and up to three WHO\n"
 

@@ -6,7 +6,7 @@ use Rattle.aa_text_files.specs.Files.{File}
 use Rattle.aatry_test.specs.Running.{Asserted, IsTranscriptAsserted, nothing_asserted}
 use Rattle.aatry_transcripts.specs.Transcripts.{is_assertion, is_command}
 
--- a line that changes the policy set, or asks it
+-- a line that changes the policy set, or asserts something of it
 abbrev pub is_step : List ℕ → Bool
 is_step line = is_command line || is_assertion line
 

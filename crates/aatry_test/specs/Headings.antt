@@ -1,4 +1,4 @@
--- The line that stands above what is told of a line of a transcript.
+-- The heading of the report on a line of a transcript.
 use Rattle.std.specs.Prelude.{ℕ, List, [], ◌∷◌, ◌++◌, codes}
 use Rattle.std.specs.Fmt.{decimal}
 use Rattle.aa_bytes.specs.Bytes.{line_feed}

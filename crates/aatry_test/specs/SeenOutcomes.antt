@@ -1,4 +1,4 @@
--- How a transcript came out, as the code holds it.
+-- The outcome of a transcript, as the code holds it.
 use Rattle.aatry_test.specs.Tests.{Accepted, Failed, Outcome, Passed}
 use Rattle.aatry_test.specs.declared.testing.Outcome.{Outcome as CodeOutcome}
 use Rattle.aatry_test.specs.declared.testing.Outcome.TheVariants as code

@@ -16,12 +16,12 @@ Replaces (Some before) (Some after) files = after ≡ before ++ files
 abbrev pub ReplacesUpTo : Option (List File) → Option (List File) → List File → Type 0
 ReplacesUpTo before after files = (front : List File) × (failed : File) × (rest : List File) × (files ≡ front ++ failed ∷ rest) × Replaces before after front
 
--- what an error of this kind is to the program, where a file couldn't be replaced
+-- the program's fault for an error of this kind, where a file couldn't be replaced
 abbrev pub fault_of_store : ErrorKind → Fault
 fault_of_store kind.OutOfMemory = NoMemory
 fault_of_store _ = Write
 
--- a fault comes of that
+-- a fault can be that of a store
 abbrev pub IsOfStore : Fault → Type 0
 IsOfStore NoMemory = ⊤
 IsOfStore Write = ⊤

@@ -20,10 +20,10 @@ use aatry_claims::{Claimed, Found, Inquiry, asked_patterns, every_rule, find, is
 use aatry_policy::{Part, parts_of};
 use std::alloc::{AllocError, Global};
 
-// How many sets of states are looked at, at most, for each who is asked about: as many as by `aatry never` where no limit is given.
+// How many sets of states are looked at, at most, for each name that is asked about: as many as by `aatry never` where no limit is given.
 const MOST_SETS: usize = 262_144;
 
-// Appends what is told of somebody of whom a claim doesn't hold to a text, and reports whether it holds.
+// Appends the line on a name for which a claim doesn't hold to a text, and returns whether it holds.
 fn push_unheld(
     claimed: Claimed<'_>,
     found: &Found<'_>,
@@ -40,7 +40,7 @@ fn push_unheld(
     Ok(false)
 }
 
-// The same of all of them.
+// Appends the lines on all names for which a claim doesn't hold to a text, and returns whether it holds for all.
 fn push_all_unheld(
     claimed: Claimed<'_>,
     found: &[Found<'_>],
@@ -59,7 +59,7 @@ fn push_all_unheld(
     Ok(all)
 }
 
-// Appends what is told of a claim of paths of some patterns to a text, where it doesn't hold, and reports whether it holds.
+// Appends the report on a claim on the paths of some patterns to a text, where it doesn't hold, and returns whether it holds.
 fn push_asked(
     alloc: Global,
     parts: &[Part<'_>],
@@ -87,7 +87,7 @@ fn push_asked(
     push_all_unheld(claimed, &found, out)
 }
 
-// The same of a claim, asked of a policy set.
+// Appends the report on a claim, asked of a policy set, to a text, where it doesn't hold, and returns whether it holds.
 fn push_claimed(
     alloc: Global,
     language: Language,
@@ -116,7 +116,7 @@ fn push_nothing(out: &mut Vec<u8>) -> Result<(), AllocError>
     )
 }
 
-// The same of words.
+// Appends the report on the words of an assertion to a text, where it doesn't hold, and returns whether it holds.
 fn push_words(
     alloc: Global,
     language: Language,
@@ -137,9 +137,9 @@ fn push_words(
     }
 }
 
-/// Appends what is told of an assertion to a text, where it doesn't hold of a policy set, and reports whether it holds: a line for each of whom it doesn't,
-/// as `aatry never` tells it, behind `+ `. One that asserts nothing doesn't hold, and neither does one whose pattern no rule can have; that is told. `files`
-/// are those whose variables the pattern may have.
+/// Appends the report on an assertion to a text, where it doesn't hold of a policy set, and returns whether it holds: a line for each name for which
+/// it doesn't, as `aatry never` prints it, after `+ `. An assertion that claims nothing doesn't hold, and neither does one whose pattern no rule can
+/// have; that is reported. `files` are those whose variables the pattern may have.
 ///
 /// # Errors
 ///

@@ -2,8 +2,8 @@
 
 ghost use Rattle.aatry_test.specs.AssertionLaws.{DependOnSteps};
 
-/// Where all assertions of a transcript hold, so do those of each other one that has the same commands and assertions, in the same order: replies that are
-/// wanted, comments and blanks decide none.
+/// Where all assertions of a transcript hold, so do those of each other transcript that has the same commands and assertions, in the same order:
+/// wanted replies, comments and blanks decide none.
 pub fn what_assertions_depend_on()
     ensures { DependOnSteps }
 {}

@@ -1,4 +1,4 @@
-//! The test of transcripts over a folder of policy on a disk.
+//! The test of transcripts over a folder of policy on disk.
 
 ghost use Rattle.std.specs.Prelude.{◌≡◌, ◌++◌, ◌∷◌, ◌+◌, ◌-◌, ◌<◌, ◌≤◌, ◌^◌, [], IfErr, IfOk, OnErr, OnOk, map, string_bytes};
 ghost use Rattle.aa_start.specs.Gathering.{texts_of};
@@ -20,14 +20,14 @@ use aatry_arguments::Test;
 use aatry_folder::{Fault, Folders, Report, file_at, policy_below};
 use std::alloc::{AllocError, Global};
 
-// A file that is to be replaced, and by which text.
+// A file that is to be replaced, and its new text.
 #[derive(Drop)]
 struct Replacement {
     path: String,
     text: Vec<u8>,
 }
 
-// What tests came to so far, and whether what is told is to be accepted.
+// The results of the tests so far, and whether the replies are to be accepted.
 #[derive(Drop)]
 struct Tests {
     accept: bool,
@@ -37,7 +37,7 @@ struct Tests {
 }
 
 impl Tests {
-    // None so far.
+    // No tests so far.
     fn new(alloc: Global, accept: bool) -> Tests
         ensures came { seen_tests result ≡ came_to_nothing }
         ensures accept { result.accept ≡ accept }
@@ -50,7 +50,7 @@ impl Tests {
         }
     }
 
-    // Counts how the transcript of a path came out.
+    // Counts the outcome of the transcript of a path.
     fn count(&mut self, path: String, outcome: Outcome) -> Result<(), AllocError>
         requires { self.old.failed < 2 ^ 64 - 1 }
         ensures failed { OnOk result (self.new.failed ≡ self.old.failed + failed_of (seen_outcome outcome)) }
@@ -74,7 +74,7 @@ impl Tests {
     }
 }
 
-// Tests a transcript, and puts what it came to behind what others came to.
+// Tests a transcript, and appends the report on it to those on the others.
 fn test_at<D: FileSystem>(
     alloc: Global,
     language: Language,
@@ -163,7 +163,7 @@ fn replace_each<S: FileStore>(
     Ok(())
 }
 
-// What is told of tests, and how many transcripts failed.
+// The report on tests, with how many transcripts failed.
 fn report_of(alloc: Global, tests: Tests) -> Report
     ensures told { seen_report result ≡ record { text = (seen_tests tests).text; notes = []; failed = (seen_tests tests).failed } }
 {
@@ -175,14 +175,15 @@ fn report_of(alloc: Global, tests: Tests) -> Report
     }
 }
 
-/// Tests the transcripts that are asked for over a folder of policy: reads the folder as `aatry_folder::policy_below` does, and tests each transcript as
-/// `aatry_test::test` does, by a language. A transcript is read at its own path, which begins in the current folder where it doesn't begin with `/`.
-/// Where what is told is to be accepted, each transcript that is accepted is then replaced in the store, in their order; an accepted one doesn't count as
-/// failed. Without that nothing is replaced (`what_tests_replace`).
+/// Tests the transcripts that are asked for over a folder of policy: the folder is read as by `aatry_folder::policy_below`, and each transcript is
+/// tested as by `aatry_test::test`, by a language. A transcript is read at its own path, which starts in the current folder where it doesn't begin
+/// with `/`. Where the replies are to be accepted, each transcript that is accepted is then replaced in the store, in their order; an accepted one
+/// doesn't count as failed. Without that nothing is replaced (`what_tests_replace`).
 ///
 /// # Errors
 ///
-/// - `Unreadable` with the first folder or file below the folder of policy that can't be read, or else the first transcript. Nothing was replaced then.
+/// - `Unreadable` with the first folder or file below the folder of policy that can't be read, or else the first transcript. Nothing was replaced
+///   then.
 /// - `TooMany` where there are more than 65,536 files and folders. Nothing was replaced then.
 /// - `Write` where an accepted transcript can't be replaced. Those before it were, and no other.
 /// - `NoMemory` where memory ran out. Nothing was replaced then, or those transcripts before the one that couldn't be for that.

@@ -1,4 +1,4 @@
-//! What assertions claim.
+//! The claims of assertions.
 
 ghost use Rattle.std.specs.Prelude.{◌≡◌, map, option_map};
 ghost use Rattle.aatry_test.specs.Claims.{claim_of, claimed_in};
@@ -7,7 +7,7 @@ ghost use Rattle.aatry_claims.specs.SeenClaimed.{seen_claimed};
 use aa_explain_paths::Claim;
 use aatry_claims::{Claimed, path_words};
 
-// What a word claims.
+// The claim of a word.
 fn claim_of(word: &[u8]) -> Option<Claim>
     ensures { result ≡ claim_of word.now }
 {
@@ -20,8 +20,8 @@ fn claim_of(word: &[u8]) -> Option<Claim>
     }
 }
 
-/// What words claim: `never` or `always`, and behind that the words of a question about all paths (`path_words`). None where they claim nothing. It takes no
-/// memory.
+/// The claim of words: `never` or `always`, followed by the words of a question about all paths (`path_words`). `None` where they claim nothing. It
+/// takes no memory.
 pub fn claimed_in<'a>(words: &'a [&'a [u8]]) -> Option<Claimed<'a>>
     ensures { option_map seen_claimed result ≡ claimed_in (map (λ word. word.now) words.now) }
 {

@@ -1,4 +1,4 @@
-//! A transcript, compared with what the run of its commands tells, and with what its assertions come to.
+//! A transcript, compared with the replies of the run of its commands, and with the outcome of its assertions.
 
 ghost use Rattle.std.specs.Prelude.{◌≡◌, ◌++◌, ◌∷◌, [], IfOk, OnOk, ◌≤◌, count_by, flat_map};
 ghost use Rattle.aatry_test.specs.Running.{seen_asserted};
@@ -30,7 +30,7 @@ pub struct Counts {
     pub failing: usize,
 }
 
-// Puts a count behind a text, in these words, where there are assertions.
+// Appends a count to a text, in these words, where there are assertions.
 fn push_count(
     out: &mut Vec<u8>,
     assertions: usize,
@@ -46,7 +46,7 @@ fn push_count(
     }
 }
 
-// Puts how a transcript came out that passed behind a text.
+// Appends the line of a transcript that passed to a text.
 fn push_passed(
     out: &mut Vec<u8>,
     path: &[u8],
@@ -62,7 +62,7 @@ fn push_passed(
     Ok(())
 }
 
-// The words between the path of a transcript that didn't and its numbers.
+// The words between the path of a transcript that didn't pass and its numbers.
 fn outcome_words(accepted: bool) -> &'static str
     ensures { result.now ≡ outcome_words accepted }
 {
@@ -73,7 +73,7 @@ fn outcome_words(accepted: bool) -> &'static str
     }
 }
 
-// Puts how one came out that didn't behind a text, where it is accepted or not.
+// Appends the last line on a transcript that didn't pass to a text, where it is accepted or not.
 fn push_last(
     out: &mut Vec<u8>,
     accepted: bool,
@@ -91,7 +91,7 @@ fn push_last(
     Ok(())
 }
 
-// Puts what is told of a reply behind a text, and says how many differ: one or none.
+// Appends the difference of a reply to a text, and returns how many differ: one or none.
 fn push_reply(
     path: &[u8],
     number: usize,
@@ -113,7 +113,7 @@ fn push_reply(
     Ok(1)
 }
 
-// Puts what is told of a line behind a text, and says how many replies differ: one or none.
+// Appends the difference of the reply to a line to a text, and returns how many replies differ: one or none.
 fn push_line(
     alloc: Global,
     path: &[u8],
@@ -135,7 +135,7 @@ fn push_line(
     push_reply(path, number, line, &wanted, told, out)
 }
 
-// Puts what is told of each command behind a text, and says how many replies differ.
+// Appends the difference of the reply to each command to a text, and returns how many replies differ.
 fn push_parts(
     alloc: Global,
     path: &[u8],
@@ -158,7 +158,7 @@ fn push_parts(
     Ok(differing)
 }
 
-// Puts what is told of a transcript that didn't pass behind a text, where it is accepted or not.
+// Appends the report on a transcript that didn't pass to a text, where it is accepted or not.
 fn push_failure(
     alloc: Global,
     accepted: bool,
@@ -184,17 +184,17 @@ fn push_failure(
     push_last(out, accepted, path, counts)
 }
 
-/// Compares a transcript with what the run of its commands tells, and with what its assertions come to, puts what is found behind a text, and says whether the
-/// transcript passed: all lines that are told are those that its wanted lines ask for, in their order (`are_met`), and all its assertions hold. `lines`
-/// are those of the transcript, which is told by `path`, and `told` those of all that the run writes.
+/// Compares a transcript with the replies of the run of its commands, and with the outcome of its assertions, appends the report to a text, and
+/// returns whether the transcript passed: all reply lines are those that its wanted lines ask for, in their order (`are_met`), and all its
+/// assertions hold. `lines` are those of the transcript, which is named by `path`, and `told` those of all that the run writes.
 ///
-/// Of a transcript that passed one line is put. Of another each command is told whose reply differs, with the number of its line, and below it the
-/// lines that are wanted and not told, and those that are told and not wanted; then the assertions that don't hold; and at the end that it failed, or where it
-/// is to be accepted as it is told, that it is.
+/// For a transcript that passed one line is appended. For another each command comes whose reply differs, with the number of its line, and below it
+/// the lines that are wanted and missing, and those that aren't wanted; then the assertions that don't hold; and at the end that it failed, or where
+/// it is to be accepted, that it is.
 ///
 /// # Errors
 ///
-/// Where memory runs out. A beginning may have been put then.
+/// Where memory runs out. A beginning may have been appended then.
 pub fn compare(
     alloc: Global,
     accepted: bool,

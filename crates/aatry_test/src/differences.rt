@@ -1,4 +1,4 @@
-//! What is told of lines that differ.
+//! The report on lines that differ.
 
 ghost use Rattle.std.specs.Prelude.{◌≡◌, ◌++◌, OnOk};
 ghost use Rattle.std.specs.List.{list_all};
@@ -21,7 +21,7 @@ fn is_among(lines: &[&[u8]], line: &[u8]) -> bool
     false
 }
 
-// Whether each of these lines is among others.
+// Whether each of these lines is among the others.
 fn are_among(others: &[&[u8]], lines: &[&[u8]]) -> bool
     ensures { result ≡ list_all (is_among (texts others.now)) (texts lines.now) }
 {
@@ -40,7 +40,7 @@ fn are_reordered(lines: &[&[u8]], others: &[&[u8]]) -> bool
     are_among(others, lines) && are_among(lines, others)
 }
 
-// Puts a line behind a text, behind a sign and as it is shown.
+// Appends a line to a text, after a sign and as it is shown.
 fn push_marked(out: &mut Vec<u8>, sign: &str, line: &[u8]) -> Result<(), AllocError>
     ensures { OnOk result (out.new.items ≡ out.old.items ++ marked_line sign.now line.now) }
 {
@@ -50,7 +50,7 @@ fn push_marked(out: &mut Vec<u8>, sign: &str, line: &[u8]) -> Result<(), AllocEr
     Ok(())
 }
 
-// Puts those of these lines that aren't among others, or all of them, behind a text, each behind a sign.
+// Appends those of these lines that aren't among the others, or all of them, to a text, each after a sign.
 fn push_marked_lines(
     out: &mut Vec<u8>,
     sign: &str,
@@ -68,7 +68,7 @@ fn push_marked_lines(
     Ok(())
 }
 
-/// Puts the lines of a reply that differ behind a text.
+/// Appends the lines of a reply that differ to a text.
 ///
 /// # Errors
 ///
@@ -85,7 +85,7 @@ pub fn push_differing_lines(
     push_marked_lines(out, "+ ", all, wanted, told)
 }
 
-// Puts what is told of one wanted line ahead of the first command behind a text.
+// Appends the report on one wanted line before the first command to a text.
 fn push_ahead(out: &mut Vec<u8>, path: &[u8], line: &[u8]) -> Result<(), AllocError>
     ensures { OnOk result (out.new.items ≡ out.old.items ++ ahead_line path.now line.now) }
 {
@@ -93,7 +93,7 @@ fn push_ahead(out: &mut Vec<u8>, path: &[u8], line: &[u8]) -> Result<(), AllocEr
     push_marked(out, ": ahead of the first command: ", line)
 }
 
-/// Puts what is told of wanted lines ahead of the first command behind a text.
+/// Appends the report on wanted lines before the first command to a text.
 ///
 /// # Errors
 ///

@@ -1,4 +1,4 @@
-//! The line that stands above what is told of a line of a transcript.
+//! The heading of the report on a line of a transcript.
 
 ghost use Rattle.std.specs.Prelude.{◌≡◌, ◌++◌, OnOk};
 ghost use Rattle.aatry_test.specs.Headings.{heading};
@@ -6,7 +6,7 @@ ghost use Rattle.aatry_test.specs.Headings.{heading};
 use aatry_report::{push_number, push_shown};
 use std::alloc::AllocError;
 
-/// Appends the line that stands above what is told of a line of a transcript to a text: the path, the number of the line from 1, and the line itself.
+/// Appends the heading of the report on a line of a transcript to a text: the path, the number of the line from 1, and the line itself.
 ///
 /// # Errors
 ///

@@ -4,8 +4,9 @@ ghost use Rattle.aatry_test.specs.Laws.{AcceptedPass, AllIsTold, AllIsWanted, Ea
 
 use aa_start::FileSystem;
 
-/// What differs is told below the command that it answers: where each command is answered by a reply of the form that replies have, whose first line alone
-/// begins one, its part has that reply. Whatever is told, no line of it is left out where there is a command; and no line that is wanted is left out.
+/// What differs is reported below the command that it answers: where each command is answered by a reply of the form that replies have, whose first
+/// line alone begins one, its part has that reply. Whatever the replies are, none of their lines is left out where there is a command; and no wanted
+/// line is left out.
 pub fn what_parts_are()
     ensures each { EachHasItsReply }
     ensures told { AllIsTold }
@@ -17,7 +18,7 @@ pub fn what_is_accepted_passes()
     ensures { AcceptedPass }
 {}
 
-/// Where what is told isn't to be accepted, no file is to be replaced.
+/// Where the replies aren't to be accepted, no file is to be replaced.
 pub fn what_tests_replace<D: FileSystem>(disk: &D)
     ensures { NothingIsReplaced (D.known disk.now) }
 {

@@ -1,5 +1,5 @@
-//! The test of transcripts of the machine, by its own run: how what a run tells differs from what they want, and where that is accepted, in their files; and
-//! their assertions, claims about all paths, which the policy set is to meet where they stand.
+//! The test of transcripts of the machine, by its own run: how the replies of a run differ from what they want, and where that is accepted, in their
+//! files; and their assertions, claims about all paths, which the policy set has to satisfy at that point.
 #![tactic(auto)]
 
 mod asserted;

@@ -1,4 +1,4 @@
-//! The assertions of a transcript, each asked of the policy set that the commands before it lead to.
+//! The assertions of a transcript, each asked of the policy set after the commands before it.
 
 ghost use Rattle.std.specs.Prelude.{◌≡◌, ◌<◌, ◌≤◌, ◌+◌, ◌-◌, ◌^◌, IfOk, OnOk, false};
 ghost use Rattle.aa_set_manager.specs.Manager.{new_manager_in};
@@ -28,7 +28,7 @@ pub struct Run<'a> {
     pub path: &'a [u8],
 }
 
-// Whether a command found no memory.
+// Whether memory ran out at a command.
 fn lacks_memory(reply: &Reply) -> bool
     ensures { result ≡ lacks_memory reply.now }
 {
@@ -38,7 +38,7 @@ fn lacks_memory(reply: &Reply) -> bool
     }
 }
 
-// Has the machine go on behind a command.
+// Has the machine go on after a command.
 fn obey(files: &Files, command: &[u8], manager: &mut Manager) -> Result<(), AllocError>
     ensures { OnOk result (GoesOn files.now manager.old command.now manager.new) }
 {
@@ -50,7 +50,7 @@ fn obey(files: &Files, command: &[u8], manager: &mut Manager) -> Result<(), Allo
     }
 }
 
-// Asks the assertion of a line, and puts what it comes to behind what others came to.
+// Asks the assertion of a line, and appends its outcome to that of the others.
 fn push_asserted(
     alloc: Global,
     run: Run<'_>,
@@ -82,7 +82,8 @@ fn push_asserted(
     Ok(())
 }
 
-// Has the machine go on behind a line, if it holds a command; and where it holds an assertion, asks that, and puts what it comes to behind what others came to.
+// Has the machine go on after a line, if it holds a command; and where it holds an assertion, asks that, and appends its outcome to that of the
+// others.
 fn push_line(
     alloc: Global,
     run: Run<'_>,
@@ -105,7 +106,7 @@ fn push_line(
     }
 }
 
-// What the assertions of lines come to.
+// The outcome of the assertions of lines.
 fn assert_each(alloc: Global, run: Run<'_>, lines: &[&[u8]]) -> Result<Asserted, AllocError>
     ensures { IfOk result (λ all. AreAsserted run.entry.language run.entry.files.now run.entry.path.now 1 (new_manager_in run.entry.language false)
         (texts lines.now) (seen_asserted all)) }
@@ -119,8 +120,8 @@ fn assert_each(alloc: Global, run: Run<'_>, lines: &[&[u8]]) -> Result<Asserted,
     Ok(all)
 }
 
-/// What the assertions of a transcript come to, by its lines: each is asked of the policy set that the commands before it lead to, from the empty one on, as
-/// the machine answers them (`aa_set_manager::reply_to`). What is told of one that doesn't hold has the path and the number of its line. Of a
+/// The outcome of the assertions of a transcript, by its lines: each is asked of the policy set after the commands before it, from the empty one on,
+/// as the machine answers them (`aa_set_manager::reply_to`). The report on one that doesn't hold has the path and the number of its line. Of a
 /// transcript without assertions no command is run.
 ///
 /// # Errors

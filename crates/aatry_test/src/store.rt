@@ -15,7 +15,7 @@ pub trait FileStore {
     // The files that were replaced, each by its path with its new bytes, in their order, where they are known.
     ghost replaced: { Self → Option (List File) };
 
-    /// Puts these bytes in the place of those of the file at a path, all of them at once.
+    /// Puts these bytes in place of those of the file at a path, all of them at once.
     ///
     /// # Errors
     ///
@@ -25,10 +25,10 @@ pub trait FileStore {
         ensures err { OnErr result (Replaces (replaced self.old) (replaced self.new) []) };
 }
 
-/// The file system of a runtime. A file is replaced by a new one, which is written whole beside it, under its name with `.new` behind, and then given its name;
-/// one that a link leads to is replaced, and the link stays. The new file has the permissions of the old one, and belongs to whoever runs the
-/// program. Where one of that name is there already nothing is replaced, and where anything else fails, the new file is removed, if it can be.
-/// Nothing is known of what was replaced.
+/// The file system of a runtime. A file is replaced by a new one, which is written whole beside it, under its name followed by `.new`, and then
+/// renamed; a file that a link leads to is replaced, and the link stays. The new file has the permissions of the old one, and belongs to whoever
+/// runs the program. Where a file of that name exists already nothing is replaced, and where anything else fails, the new file is removed, if
+/// possible. Nothing is known of what was replaced.
 #[derive(Drop)]
 pub struct RuntimeStore<R> {
     rt: R,
@@ -74,7 +74,7 @@ fn fill_and_rename<R: rt::Files>(
     fs::rename(rt, beside, path)
 }
 
-// Replaces the file at a path that no link stands at, by way of a new one beside it.
+// Replaces the file at a path that is no link, by way of a new one beside it.
 fn replace_by<R: rt::Files>(rt: &R, bytes: &[u8], beside: &str, path: &str) -> io::Result<()> {
     let file = fs::File::create_new(rt, beside)?;
     let replaced = fill_and_rename(rt, file, bytes, beside, path);
@@ -94,7 +94,7 @@ impl<R: rt::Files> FileStore for RuntimeStore<R> {
     }
 }
 
-/// What an error is to the program, where a file couldn't be replaced.
+/// The program's fault for an error of replacing a file.
 pub fn fault_of_store(error: &io::Error) -> Fault
     ensures { result ≡ fault_of_store (error_kind error.now) }
 {

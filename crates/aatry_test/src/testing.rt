@@ -21,7 +21,7 @@ use aa_text_files::Files;
 use aatry_transcripts::{accepted_text, can_be_accepted, input_of, lines_of, transcript_lines};
 use std::alloc::{AllocError, Global};
 
-/// A transcript: the path that it is told by, and its text.
+/// A transcript: the path by which it is named, and its text.
 #[derive(Clone, Copy)]
 pub struct Transcript<'a> {
     /// The path.
@@ -30,18 +30,18 @@ pub struct Transcript<'a> {
     pub text: &'a [u8],
 }
 
-/// How a transcript came out.
+/// The outcome of a transcript.
 #[derive(Drop)]
 pub enum Outcome {
-    /// What it wants is told.
+    /// The replies are what it wants.
     Passed,
-    /// Something else is told.
+    /// The replies differ.
     Failed,
-    /// Something else is told, and accepted: its text from now on.
+    /// The replies differ, and are accepted: its text from now on.
     Accepted(Vec<u8>),
 }
 
-// What a run over these files, read by a language, writes for an input. Where none can be had memory ran out, as neither the input nor the output can
+// The output of a run over these files, read by a language, for an input. If there is none, memory ran out, as neither the input nor the output can
 // fail otherwise.
 fn output_for(
     alloc: Global,
@@ -59,7 +59,7 @@ fn output_for(
     }
 }
 
-// What a run over these files writes for the commands of a transcript, by its lines.
+// The output of a run over these files for the commands of a transcript, by its lines.
 fn output_for_lines(
     alloc: Global,
     language: Language,
@@ -72,14 +72,14 @@ fn output_for_lines(
     output_for(alloc, language, files, &input)
 }
 
-// Whether a line says that a command found no memory.
+// Whether a line is the refusal of a command at which memory ran out.
 fn says_memory(line: &[u8]) -> bool
     ensures { result ≡ says_memory line.now }
 {
     begins_with(b"refused 99 ", line)
 }
 
-// Whether some line does.
+// Whether some line is the refusal of a command at which memory ran out.
 fn lacked_memory(lines: &[&[u8]]) -> bool
     ensures { result ≡ list_any says_memory (texts lines.now) }
 {
@@ -91,7 +91,7 @@ fn lacked_memory(lines: &[&[u8]]) -> bool
     false
 }
 
-// How a transcript came out whose replies aren't the wanted ones.
+// The outcome of a transcript whose replies aren't the wanted ones.
 fn outcome_of_differing(
     alloc: Global,
     accepted: bool,
@@ -108,8 +108,8 @@ fn outcome_of_differing(
     }
 }
 
-// Compares a transcript, whose lines are given, with what a run writes and what its assertions come to, puts what is found behind a text, and says how it came out. Where a command found
-// no memory, that is unknown.
+// Compares a transcript, whose lines are given, with the output of a run and the outcome of its assertions, appends the report to a text, and
+// returns the outcome. Where memory ran out at a command, that is unknown.
 fn compare_with(
     alloc: Global,
     accept: bool,
@@ -144,18 +144,18 @@ fn compare_with(
     outcome_of_differing(alloc, accepted, transcript.text, &told)
 }
 
-/// Runs the commands of a transcript over these files, read by a language, from the empty policy set on, compares what is told with what the
-/// transcript wants, asks its assertions, puts what is found behind a text, and says how the transcript came out. In a transcript a line that begins with `> `
-/// holds a command, and one that begins with `! ` an assertion (`aatry_test::assert_lines`); a line that begins with `#` and one of blanks are left
-/// out, and each other line is wanted. A carriage return at a line's end is left out.
+/// Runs the commands of a transcript over these files, read by a language, from the empty policy set on, compares the replies with what the
+/// transcript wants, asks its assertions, appends the report to a text, and returns the outcome. In a transcript a line that begins with `> ` holds
+/// a command, and one that begins with `! ` an assertion (`aatry_test::assert_lines`); a line that begins with `#` and one of blanks are left out,
+/// and each other line is wanted. A carriage return at a line's end is left out.
 ///
-/// It passed where all that is told is what its wanted lines ask for, and all its assertions hold. Otherwise it failed; or where `accept`, what is told
-/// can be accepted (`aatry_transcripts::can_be_accepted`), and all its assertions hold, it is accepted, and its text from now on is given
-/// (`aatry_transcripts::accepted_text`).
+/// It passed where all reply lines are what its wanted lines ask for, and all its assertions hold. Otherwise it failed; or where `accept` is set,
+/// the replies can be accepted (`aatry_transcripts::can_be_accepted`), and all its assertions hold, it is accepted, and its text from now on is
+/// returned (`aatry_transcripts::accepted_text`).
 ///
 /// # Errors
 ///
-/// Where memory runs out, also for a command of the transcript (`aa_set::run_in` answers that 99). A beginning may have been put then.
+/// Where memory runs out, also for a command of the transcript (`aa_set::run_in` answers that 99). A beginning may have been appended then.
 pub fn test(
     alloc: Global,
     language: Language,

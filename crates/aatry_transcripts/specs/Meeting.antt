@@ -1,4 +1,4 @@
--- Which lines that a run tells meet those that a transcript wants.
+-- Which output lines of a run meet those that a transcript wants.
 use Rattle.std.specs.Prelude.{◌≡◌, ◌⊎◌, ℕ, Bool, true, false, ◌&&◌, if◌then◌else◌, List, [], ◌∷◌, ◌++◌, Option, None, Some, codes, nat_eq}
 use Rattle.std.specs.List.{ends_with}
 use Rattle.std.specs.Option.{option_map_or}
@@ -6,7 +6,7 @@ use Rattle.std.specs.Str.{bytes_eq}
 use Rattle.aa_bytes.specs.Texts.{is_empty}
 use Rattle.aatry_transcripts.specs.Replies.{is_audit_line}
 
--- what a wanted line ends in whose audit line is left out
+-- the end of a wanted line whose audit line is left out
 abbrev pub left_out : List ℕ
 left_out = codes " .."
 
@@ -14,11 +14,11 @@ left_out = codes " .."
 abbrev pub leaves_out : List ℕ → Bool
 leaves_out wanted = ends_with nat_eq wanted left_out
 
--- a wanted line stands for this one, and for the audit line behind it, whatever that is
+-- a wanted line stands for this one, and for the audit line after it, whatever that is
 abbrev pub stands_for : List ℕ → List ℕ → Bool
 stands_for wanted line = bytes_eq wanted (line ++ left_out)
 
--- These are the lines that a wanted line asks for: it is told itself, byte for byte; or the line is told that it stands for, and an audit line behind it.
+-- These are the lines that a wanted line asks for: itself, byte for byte; or the line that it stands for, followed by an audit line.
 abbrev pub IsMetBy : List ℕ → List (List ℕ) → Type 0
 IsMetBy wanted told =
     (told ≡ wanted ∷ [])
@@ -29,12 +29,12 @@ abbrev pub AreMetBy : List (List ℕ) → List (List ℕ) → Type 0
 AreMetBy [] told = told ≡ []
 AreMetBy (wanted ∷ more) told = (own rest : List (List ℕ)) × (told ≡ own ++ rest) × IsMetBy wanted own × AreMetBy more rest
 
--- what is told behind an audit line, where one comes first
+-- the output after an audit line, where one comes first
 abbrev pub behind_audit_line : List (List ℕ) → Option (List (List ℕ))
 behind_audit_line [] = None
 behind_audit_line (line ∷ behind) = if is_audit_line line then Some behind else None
 
--- what is told behind the lines that a wanted line asks for, where these come first
+-- the output after the lines that a wanted line asks for, where these come first
 abbrev pub behind_met : List ℕ → List (List ℕ) → Option (List (List ℕ))
 behind_met wanted [] = None
 behind_met wanted (line ∷ behind) =

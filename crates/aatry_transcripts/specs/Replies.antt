@@ -1,5 +1,5 @@
--- Where in what a run tells each reply ends. What comes out of a comparison doesn't depend on this: it says only below which command
--- a line that differs is shown.
+-- Where each reply ends in a run's output. The result of a comparison doesn't depend on this: it only decides below which command a line that
+-- differs is shown.
 use Rattle.std.specs.Prelude.{ℕ, ◌+◌, Bool, ◌&&◌, not, nat_le, if◌then◌else◌, List, [], ◌∷◌, codes, take}
 use Rattle.std.specs.List.{list_any, prefix_len}
 use Rattle.aa_bytes.specs.Texts.{begins, begins_with}
@@ -8,7 +8,7 @@ use Rattle.aatry_transcripts.specs.Transcripts.{command_in, is_blank, is_command
 abbrev pub is_small_letter : ℕ → Bool
 is_small_letter b = nat_le 97 b && nat_le b 122
 
--- an audit line, as stands behind an answer that is logged
+-- an audit line, which follows an answer that is logged
 abbrev pub is_audit_line : List ℕ → Bool
 is_audit_line line = begins_with (codes "apparmor=") line
 
@@ -25,7 +25,7 @@ reply_size (first ∷ lines) = 1 + prefix_len (λ line. not (begins_reply line))
 abbrev pub reply_to : List ℕ → List (List ℕ) → List (List ℕ)
 reply_to line told = if is_blank (command_in line) then [] else take (reply_size told) told
 
--- what is told to a line, among the lines that are told from there on: to one without a command nothing, and to the last command all of them
+-- the output for a line, among the lines from there on: nothing for one without a command, and all of them for the last command
 abbrev pub told_next : List ℕ → List (List ℕ) → List (List ℕ) → List (List ℕ)
 told_next line behind told =
     if not (is_command line) then []

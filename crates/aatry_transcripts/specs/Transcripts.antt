@@ -1,4 +1,4 @@
--- What a transcript says: commands, behind each the lines that are wanted as its reply, and assertions.
+-- The parts of a transcript: commands, each followed by the lines that are wanted as its reply, and assertions.
 use Rattle.std.specs.Prelude.{ℕ, Bool, ◌||◌, not, List, [], ◌∷◌, ◌++◌, codes, drop, flat_map, map, take}
 use Rattle.std.specs.Borrow.{Bor}
 use Rattle.std.specs.List.{filter, list_all, prefix_len}
@@ -12,7 +12,7 @@ use Rattle.aa_set_commands.specs.Words.{is_command_blank}
 abbrev pub texts : List (Bor (List ℕ)) → List (List ℕ)
 texts lines = map (λ line. line.now) lines
 
--- the lines of a transcript, each without the carriage return by which other systems end a line, too
+-- the lines of a transcript, each also without the carriage return by which other systems end a line
 abbrev pub transcript_lines : List ℕ → List (List ℕ)
 transcript_lines text = map strip_carriage_return (lines text)
 
@@ -20,7 +20,7 @@ transcript_lines text = map strip_carriage_return (lines text)
 abbrev pub is_command : List ℕ → Bool
 is_command line = begins_with (codes "> ") line
 
--- the command that it holds: what stands behind the sign and its blank
+-- the command in such a line: what follows the sign and its blank
 abbrev pub command_in : List ℕ → List ℕ
 command_in line = drop 2 line
 
@@ -32,15 +32,15 @@ is_blank text = list_all is_command_blank text
 abbrev pub is_note : List ℕ → Bool
 is_note line = begins_with_byte hash line || is_blank line
 
--- a line that holds an assertion: what the policy set is to meet there
+-- a line that holds an assertion: what the policy set has to satisfy there
 abbrev pub is_assertion : List ℕ → Bool
 is_assertion line = begins_with (codes "! ") line
 
--- the assertion that it holds: what stands behind the sign and its blank
+-- the assertion in such a line: what follows the sign and its blank
 abbrev pub assertion_in : List ℕ → List ℕ
 assertion_in line = drop 2 line
 
--- a line that stands beside the replies, and is part of none
+-- a line that is part of no reply
 abbrev pub is_aside : List ℕ → Bool
 is_aside line = is_note line || is_assertion line
 
@@ -48,7 +48,7 @@ is_aside line = is_note line || is_assertion line
 abbrev pub is_wanted : List ℕ → Bool
 is_wanted line = not (is_command line || is_aside line)
 
--- the lines that are wanted of these
+-- those of these lines that are wanted
 abbrev pub wanted_in : List (List ℕ) → List (List ℕ)
 wanted_in lines = filter is_wanted lines
 
@@ -56,10 +56,10 @@ wanted_in lines = filter is_wanted lines
 abbrev pub before_command : List (List ℕ) → List (List ℕ)
 before_command lines = take (prefix_len (λ line. not (is_command line)) lines) lines
 
--- a line as the run is given it: its command, ended by a line feed
+-- a line of the run's input: its command, ended by a line feed
 abbrev pub given_line : List ℕ → List ℕ
 given_line line = command_in line ++ line_feed ∷ []
 
--- what the run is given: the commands of these lines, each ended by a line feed
+-- the run's input: the commands of these lines, each ended by a line feed
 abbrev pub input_of : List (List ℕ) → List ℕ
 input_of lines = flat_map given_line (filter is_command lines)

@@ -1,4 +1,4 @@
-//! What a transcript becomes whose replies are accepted as they are told.
+//! What a transcript becomes whose replies are accepted.
 
 ghost use Rattle.std.specs.Prelude.{◌≡◌, ◌++◌, ◌∷◌, ◌<◌, ◌≤◌, [], IfOk, OnOk, drop, length, map};
 ghost use Rattle.std.specs.List.{list_all, list_any};
@@ -15,14 +15,14 @@ use crate::transcripts::{is_aside, is_command, is_wanted, wanted_next};
 use aa_bytes::behind;
 use std::alloc::{AllocError, Global};
 
-// Whether a transcript can want a told line.
+// Whether a transcript can want an output line.
 fn can_be_wanted(line: &[u8]) -> bool
     ensures { result ≡ can_be_wanted line.now }
 {
     is_wanted(line) && without_return(line) == line
 }
 
-// Whether it can want each of these.
+// Whether a transcript can want each of these output lines.
 fn all_can_be_wanted(told: &[&[u8]]) -> bool
     ensures { result ≡ list_all can_be_wanted (texts told.now) }
 {
@@ -34,16 +34,16 @@ fn all_can_be_wanted(told: &[&[u8]]) -> bool
     true
 }
 
-/// Whether what is told of a transcript, by its lines, can be accepted: a transcript can want each line of it, and where there is any, there is a command
-/// to stand behind. A line can't be wanted that would be taken for a command, an assertion, a comment or blanks,
-/// or that a carriage return ends.
+/// Whether the output for a transcript, by its lines, can be accepted: a transcript can want each line of it, and where there is any, there is a
+/// command for it to follow. A line can't be wanted that would be read as a command, an assertion, a comment or blanks, or that a carriage return
+/// ends.
 pub fn can_be_accepted(lines: &[&[u8]], told: &[&[u8]]) -> bool
     ensures { result ≡ can_be_accepted (texts lines.now) (texts told.now) }
 {
     all_can_be_wanted(told) && (told.is_empty() || has_command(lines))
 }
 
-// Puts a line behind a text, with what ends it, and a line feed.
+// Appends a line to a text, with its ending, and a line feed.
 fn push_ended(line: &[u8], end: &[u8], out: &mut Vec<u8>) -> Result<(), AllocError>
     ensures { OnOk result (out.new.items ≡ out.old.items ++ ended ((line.now ++ end.now) ∷ [])) }
 {
@@ -53,7 +53,7 @@ fn push_ended(line: &[u8], end: &[u8], out: &mut Vec<u8>) -> Result<(), AllocErr
     Ok(())
 }
 
-// Puts an answer behind a text that leaves out its audit line, with what ends it, and a line feed.
+// Appends an answer without its audit line to a text, with its ending, and a line feed.
 fn push_short(line: &[u8], end: &[u8], out: &mut Vec<u8>) -> Result<(), AllocError>
     ensures { OnOk result (out.new.items ≡ out.old.items ++ ended ((line.now ++ left_out ++ end.now) ∷ [])) }
 {
@@ -61,7 +61,7 @@ fn push_short(line: &[u8], end: &[u8], out: &mut Vec<u8>) -> Result<(), AllocErr
     push_ended(LEFT_OUT, end, out)
 }
 
-// Whether an answer comes first, and its audit line behind it.
+// Whether an answer comes first, followed by its audit line.
 fn is_answered(told: &[&[u8]]) -> bool
     ensures { result ≡ is_answered (texts told.now) }
 {
@@ -71,7 +71,8 @@ fn is_answered(told: &[&[u8]]) -> bool
     }
 }
 
-// Puts the first of told lines behind a text, as it is wanted from now on where audit lines are left out, and says for how many it stands.
+// Appends the first of the output lines to a text, as it is wanted from now on where audit lines are left out, and returns for how many lines it
+// stands.
 fn push_first(told: &[&[u8]], end: &[u8], out: &mut Vec<u8>) -> Result<usize, AllocError>
     requires { 0 < length told.now }
     ensures told { IfOk result (λ size. out.new.items ++ ended (map (λ line. line ++ end.now) (shortened (texts (drop size told.now))))
@@ -88,7 +89,7 @@ fn push_first(told: &[&[u8]], end: &[u8], out: &mut Vec<u8>) -> Result<usize, Al
     }
 }
 
-// Puts told lines behind a text, as they are wanted from now on where audit lines are left out.
+// Appends output lines to a text, as they are wanted from now on where audit lines are left out.
 fn push_shortened(told: &[&[u8]], end: &[u8], out: &mut Vec<u8>) -> Result<(), AllocError>
     ensures { OnOk result (out.new.items ≡ out.old.items ++ ended (map (λ line. line ++ end.now) (shortened (texts told.now)))) }
 {
@@ -100,7 +101,7 @@ fn push_shortened(told: &[&[u8]], end: &[u8], out: &mut Vec<u8>) -> Result<(), A
     Ok(())
 }
 
-// Puts each told line behind a text.
+// Appends each output line to a text.
 fn push_each(told: &[&[u8]], end: &[u8], out: &mut Vec<u8>) -> Result<(), AllocError>
     ensures { OnOk result (out.new.items ≡ out.old.items ++ ended (map (λ line. line ++ end.now) (texts told.now))) }
 {
@@ -110,7 +111,7 @@ fn push_each(told: &[&[u8]], end: &[u8], out: &mut Vec<u8>) -> Result<(), AllocE
     Ok(())
 }
 
-// Whether one of wanted lines leaves its audit line out.
+// Whether one of the wanted lines leaves its audit line out.
 fn any_leaves_out(wanted: &[&[u8]]) -> bool
     ensures { result ≡ list_any leaves_out (texts wanted.now) }
 {
@@ -122,7 +123,7 @@ fn any_leaves_out(wanted: &[&[u8]]) -> bool
     false
 }
 
-// Puts the lines behind a text that are wanted from now on of a reply that differs.
+// Appends the lines that are wanted from now on of a reply that differs to a text.
 fn push_renewed(
     wanted: &[&[u8]],
     told: &[&[u8]],
@@ -145,7 +146,7 @@ fn end_of(raw: &[u8]) -> &[u8]
     behind(without_return(raw).len(), raw)
 }
 
-// Puts the line of a command behind a text, and the new lines of its reply, if that differs; and says whether it is the wanted one.
+// Appends the line of a command to a text, and the new lines of its reply, if that differs; returns whether it is the wanted one.
 fn push_command(
     raw: &[u8],
     wanted: &[&[u8]],
@@ -163,7 +164,7 @@ fn push_command(
     Ok(false)
 }
 
-// Puts a line behind a text that holds no command, where it stays.
+// Appends a line that holds no command to a text, if it stays.
 fn push_other(stays: bool, raw: &[u8], out: &mut Vec<u8>) -> Result<(), AllocError>
     ensures { OnOk result (out.new.items ≡ out.old.items ++ ended (other_line stays raw.now)) }
 {
@@ -174,7 +175,7 @@ fn push_other(stays: bool, raw: &[u8], out: &mut Vec<u8>) -> Result<(), AllocErr
     }
 }
 
-// Puts what becomes of a line behind a text, by the lines behind it and what is told to it, and says whether the wanted lines stay that follow.
+// Appends what becomes of a line to a text, by the lines after it and the output for it, and returns whether the wanted lines that follow stay.
 fn push_accepted_line(
     alloc: Global,
     stays: bool,
@@ -195,7 +196,7 @@ fn push_accepted_line(
     push_command(raw, &wanted, told, out)
 }
 
-// Puts what becomes of the lines of a file behind a text. `lines` are the same without their carriage returns.
+// Appends what becomes of the lines of a file to a text. `lines` are the same without their carriage returns.
 fn push_accepted(
     alloc: Global,
     raw: &[&[u8]],
@@ -219,12 +220,12 @@ fn push_accepted(
     Ok(())
 }
 
-/// The text of a transcript's file, as it becomes where the lines that are told for its commands are accepted. Each command, assertion, comment and line of
-/// blanks stays as it stands, and so do the wanted lines of a reply that is the wanted one (`are_met`). Where a reply differs, the lines that are told stand right
-/// behind its command, in place of those that were wanted, each ended as the command's line is; where one of these left its audit line out, each told
-/// answer leaves out its own. Wanted lines ahead of the first command fall away. Each line ends with a line feed, the last one too.
+/// The text of a transcript's file, as it becomes where the output lines for its commands are accepted. Each command, assertion, comment and line of
+/// blanks stays, and so do the wanted lines of a reply that is the wanted one (`are_met`). Where a reply differs, its output lines come right after
+/// its command, in place of the wanted ones, each ended like the command's line; where one of the wanted ones left its audit line out, each answer
+/// leaves out its own. Wanted lines before the first command are dropped. Each line ends with a line feed, the last one too.
 ///
-/// Where `can_be_accepted`, the text is that of a transcript with the same commands, that wants just what is told (`what_acceptance_makes`).
+/// Where `can_be_accepted`, the text is that of a transcript with the same commands, that wants exactly this output (`what_acceptance_makes`).
 ///
 /// # Errors
 ///

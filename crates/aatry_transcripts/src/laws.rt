@@ -5,9 +5,9 @@ ghost use Rattle.std.specs.List.{list_any};
 ghost use Rattle.aatry_transcripts.specs.Laws.{AsksTheSame, KeepsTheOthers, PassesThen};
 ghost use Rattle.aatry_transcripts.specs.Meeting.{AreMetBy, are_met, are_same, leaves_out};
 
-/// A transcript is as it is wanted exactly where the lines that are told are those that its wanted lines ask for, in their order: each of these itself, byte
-/// for byte, or, where it ends in ` ..`, the line without that end with an audit line behind it. Where no wanted line ends so, they are the wanted lines.
-/// Told lines that are wanted as they are, are always met.
+/// A transcript is as it is wanted exactly where the output lines are those that its wanted lines ask for, in their order: each of these itself,
+/// byte for byte, or, where it ends in ` ..`, the line without that end followed by an audit line. Where no wanted line ends so, they are the wanted
+/// lines. Output lines that are wanted as they are, are always met.
 pub fn what_a_comparison_says()
     ensures asked { (wanted told : List (List ℕ)) → are_met wanted told ≡ true → AreMetBy wanted told }
     ensures met { (wanted told : List (List ℕ)) → AreMetBy wanted told → are_met wanted told ≡ true }
@@ -17,8 +17,8 @@ pub fn what_a_comparison_says()
     ensures same { (lines : List (List ℕ)) → are_same lines lines ≡ true }
 {}
 
-/// Where what a run tells for a transcript can be accepted, the accepted text is that of a transcript that passes with what was told, and whose run is given
-/// the same commands; and each command, assertion, comment and line of blanks stands in it as before, byte for byte and in their order, and none besides.
+/// Where a run's output for a transcript can be accepted, the accepted text is that of a transcript that passes with that output, and whose run gets
+/// the same commands; and each command, assertion, comment and line of blanks is in it as before, byte for byte and in their order, and no others.
 pub fn what_acceptance_makes()
     ensures passes { PassesThen }
     ensures same { AsksTheSame }

@@ -1,5 +1,5 @@
-//! Transcripts of the machine: their lines, the commands and assertions that they hold, where the reply to each ends in what a run tells, which told lines meet those
-//! that are wanted, and what a transcript becomes whose replies are accepted.
+//! Transcripts of the machine: their lines, the commands and assertions that they hold, where the reply to each ends in a run's output, which output
+//! lines meet the wanted ones, and what a transcript becomes whose replies are accepted.
 #![tactic(auto)]
 
 mod accepting;

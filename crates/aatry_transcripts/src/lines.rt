@@ -9,7 +9,7 @@ ghost use Rattle.aatry_transcripts.specs.Transcripts.{texts, transcript_lines};
 use aa_set_commands::first_line;
 use std::alloc::{AllocError, Global};
 
-// Puts a last line behind others, where it isn't empty.
+// Appends a last line to `lines`, unless it is empty.
 fn push_last<'a>(lines: &mut Vec<&'a [u8]>, last: &'a [u8]) -> Result<(), AllocError>
     ensures { OnOk result (texts lines.new.items ≡ texts lines.old.items ++ (if is_empty last.now then [] else last.now ∷ [])) }
 {
@@ -20,7 +20,7 @@ fn push_last<'a>(lines: &mut Vec<&'a [u8]>, last: &'a [u8]) -> Result<(), AllocE
     Ok(())
 }
 
-/// The lines of a text, each without its line feed: what stands between these, the last one only where it isn't empty.
+/// The lines of a text, each without its line feed: what is between these, the last one only where it isn't empty.
 ///
 /// # Errors
 ///
@@ -63,7 +63,7 @@ pub fn without_returns<'a>(alloc: Global, lines: &[&'a [u8]]) -> Result<Vec<&'a 
     Ok(found)
 }
 
-/// The lines of a transcript, as `lines_of` has them, each without the carriage return by which other systems end a line, too.
+/// The lines of a transcript, like those of `lines_of`, each also without the carriage return by which other systems end a line.
 ///
 /// # Errors
 ///
@@ -75,7 +75,7 @@ pub fn transcript_lines<'a>(alloc: Global, text: &'a [u8]) -> Result<Vec<&'a [u8
     without_returns(alloc, &lines)
 }
 
-/// The line that stands behind so many.
+/// The line at an index, which is below their number.
 pub fn line_at<'a>(at: usize, lines: &[&'a [u8]]) -> &'a [u8]
     requires { at < length lines.now }
     ensures { texts (drop at lines.now) ≡ result.now ∷ texts (drop (at + 1) lines.now) }
@@ -83,7 +83,7 @@ pub fn line_at<'a>(at: usize, lines: &[&'a [u8]]) -> &'a [u8]
     lines[at]
 }
 
-/// The lines that stand behind so many.
+/// The lines after the first `size`; none where there are fewer.
 pub fn lines_behind<'l, 'a>(size: usize, lines: &'l [&'a [u8]]) -> &'l [&'a [u8]]
     requires { size ≤ length lines.now }
     ensures { result.now ≡ drop size lines.now }

@@ -1,4 +1,4 @@
-//! Which lines that a run tells meet those that a transcript wants.
+//! Which output lines of a run meet those that a transcript wants.
 
 ghost use Rattle.std.specs.Prelude.{◌≡◌, ◌<◌, ◌≤◌, None, Some, drop, false, length, true};
 ghost use Rattle.aatry_transcripts.specs.Meeting.{are_met, behind_audit_line, behind_met, leaves_out, stands_for};
@@ -8,7 +8,7 @@ use crate::lines::{line_at, lines_behind};
 use crate::replies::is_audit_line;
 use aa_bytes::{begins_with, behind};
 
-/// What a wanted line ends in whose audit line is left out.
+/// The end of a wanted line whose audit line is left out.
 pub const LEFT_OUT: &[u8] = b" ..";
 
 /// Whether a wanted line leaves its audit line out.
@@ -18,7 +18,7 @@ pub fn leaves_out(wanted: &[u8]) -> bool
     wanted.ends_with(LEFT_OUT)
 }
 
-// Whether a wanted line stands for this one, and for the audit line behind it.
+// Whether a wanted line stands for this one, and for the audit line after it.
 fn stands_for(wanted: &[u8], line: &[u8]) -> bool
     ensures { result ≡ stands_for wanted.now line.now }
 {
@@ -37,7 +37,7 @@ fn is_audited(told: &[&[u8]]) -> bool
     }
 }
 
-// How many told lines, from the first on, a wanted line asks for: none where it asks for others.
+// How many output lines, from the first on, a wanted line asks for: 0 where it asks for others.
 fn met_size(wanted: &[u8], told: &[&[u8]]) -> usize
     ensures met { 0 < result → behind_met wanted.now (texts told.now) ≡ Some (drop result (texts told.now)) }
     ensures unmet { result ≡ 0 → behind_met wanted.now (texts told.now) ≡ None }
@@ -57,8 +57,8 @@ fn met_size(wanted: &[u8], told: &[&[u8]]) -> usize
     }
 }
 
-/// Whether told lines are those that wanted lines ask for, each of them in turn, and no other. A wanted line asks for itself, byte for byte; one that
-/// ends in ` ..` also for the line without that end and an audit line behind it, whatever that is.
+/// Whether output lines are those that wanted lines ask for, each of them in turn, and no others. A wanted line asks for itself, byte for byte; one
+/// that ends in ` ..` also for the line without that end followed by an audit line, whatever that is.
 pub fn are_met(wanted: &[&[u8]], told: &[&[u8]]) -> bool
     ensures { result ≡ are_met (texts wanted.now) (texts told.now) }
 {

@@ -1,4 +1,4 @@
-//! Where in what a run tells each reply ends.
+//! Where each reply ends in a run's output.
 
 ghost use Rattle.std.specs.Prelude.{◌≡◌, ◌≤◌, length, take, not};
 ghost use Rattle.std.specs.List.{list_any, prefix_len};
@@ -8,7 +8,7 @@ ghost use Rattle.aatry_transcripts.specs.Transcripts.{is_command, texts};
 use crate::transcripts::{command_in, is_blank, is_command};
 use aa_bytes::begins_with;
 
-/// Whether a line is an audit line, as stands behind an answer that is logged.
+/// Whether a line is an audit line, which follows an answer that is logged.
 pub fn is_audit_line(line: &[u8]) -> bool
     ensures { result ≡ is_audit_line line.now }
 {
@@ -25,7 +25,7 @@ pub fn begins_reply(line: &[u8]) -> bool
     }
 }
 
-// How many lines stand before one that begins a reply.
+// How many lines come before one that begins a reply.
 fn size_before_reply(lines: &[&[u8]]) -> usize
     ensures value { result ≡ prefix_len (λ line. not (begins_reply line)) (texts lines.now) }
     ensures within { result ≤ length lines.now }
@@ -63,7 +63,7 @@ pub fn has_command(lines: &[&[u8]]) -> bool
     false
 }
 
-// How many lines make the reply to the command of a line, of those that are told from there on.
+// How many lines make the reply to the command of a line, of the output from there on.
 fn size_of_reply(line: &[u8], told: &[&[u8]]) -> usize
     ensures value { take result (texts told.now) ≡ reply_to line.now (texts told.now) }
     ensures within { result ≤ length told.now }
@@ -75,7 +75,7 @@ fn size_of_reply(line: &[u8], told: &[&[u8]]) -> usize
     }
 }
 
-/// How many lines are told to a line, of those that are told from there on; `behind` are the lines that follow it.
+/// How many lines are the output for a line, of the output from there on; `behind` are the lines that follow it.
 pub fn told_size(line: &[u8], behind: &[&[u8]], told: &[&[u8]]) -> usize
     ensures value { take result (texts told.now) ≡ told_next line.now (texts behind.now) (texts told.now) }
     ensures within { result ≤ length told.now }

@@ -1,4 +1,4 @@
-//! What a transcript says: commands, behind each the lines that are wanted as its reply, and assertions.
+//! The parts of a transcript: commands, each followed by the lines that are wanted as its reply, and assertions.
 
 ghost use Rattle.std.specs.Prelude.{◌≡◌, ◌++◌, ◌≤◌, IfOk, OnOk, length, count_by, not};
 ghost use Rattle.std.specs.List.{prefix_len};
@@ -19,7 +19,7 @@ pub fn is_command(line: &[u8]) -> bool
     begins_with(COMMAND_SIGN, line)
 }
 
-/// The command that it holds.
+/// The command in such a line.
 pub fn command_in(line: &[u8]) -> &[u8]
     ensures { result.now ≡ command_in line.now }
 {
@@ -41,7 +41,7 @@ pub fn is_assertion(line: &[u8]) -> bool
     begins_with(ASSERTION_SIGN, line)
 }
 
-/// The assertion that it holds.
+/// The assertion in such a line.
 pub fn assertion_in(line: &[u8]) -> &[u8]
     ensures { result.now ≡ assertion_in line.now }
 {
@@ -55,7 +55,7 @@ fn is_note(line: &[u8]) -> bool
     begins_with_byte(b'#', line) || is_blank(line)
 }
 
-/// Whether a line stands beside the replies, and is part of none: a comment, blanks, or an assertion.
+/// Whether a line is part of no reply: a comment, blanks, or an assertion.
 pub fn is_aside(line: &[u8]) -> bool
     ensures { result ≡ is_aside line.now }
 {
@@ -69,7 +69,11 @@ pub fn is_wanted(line: &[u8]) -> bool
     !(is_command(line) || is_aside(line))
 }
 
-/// The lines that are wanted of these.
+/// Those of these lines that are wanted.
+///
+/// # Errors
+///
+/// Where memory runs out.
 pub fn wanted_in<'a>(alloc: Global, lines: &[&'a [u8]]) -> Result<Vec<&'a [u8]>, AllocError>
     ensures { IfOk result (λ wanted. texts wanted.items ≡ wanted_in (texts lines.now)) }
 {
@@ -82,7 +86,7 @@ pub fn wanted_in<'a>(alloc: Global, lines: &[&'a [u8]]) -> Result<Vec<&'a [u8]>,
     Ok(wanted)
 }
 
-// How many lines stand before the next command.
+// How many lines come before the next command.
 fn size_before_command(lines: &[&[u8]]) -> usize
     ensures value { result ≡ prefix_len (λ line. not (is_command line)) (texts lines.now) }
     ensures within { result ≤ length lines.now }
@@ -98,6 +102,10 @@ fn size_before_command(lines: &[&[u8]]) -> usize
 }
 
 /// The lines that are wanted before the next command.
+///
+/// # Errors
+///
+/// Where memory runs out.
 pub fn wanted_next<'a>(alloc: Global, lines: &[&'a [u8]]) -> Result<Vec<&'a [u8]>, AllocError>
     ensures { IfOk result (λ wanted. texts wanted.items ≡ wanted_in (before_command (texts lines.now))) }
 {
@@ -130,7 +138,7 @@ pub fn assertion_count(lines: &[&[u8]]) -> usize
     count
 }
 
-// Puts a line as the run is given it behind a text, where it holds a command.
+// Appends a command and a line feed to the run's input, where a line holds a command.
 fn push_given(given: &mut Vec<u8>, line: &[u8]) -> Result<(), AllocError>
     ensures { OnOk result (given.new.items ≡ given.old.items ++ given_line line.now) }
 {
@@ -139,7 +147,7 @@ fn push_given(given: &mut Vec<u8>, line: &[u8]) -> Result<(), AllocError>
     Ok(())
 }
 
-/// What a run is given to answer the commands of a transcript, by its lines: each command in turn, ended by a line feed.
+/// The input of a run for the commands of a transcript, by its lines: each command in turn, ended by a line feed.
 ///
 /// # Errors
 ///

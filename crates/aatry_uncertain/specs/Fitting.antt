@@ -7,18 +7,18 @@ use Rattle.aa_glob_syntax.specs.Reading.{reading}
 use Rattle.aa_glob_syntax.specs.Items.{Pattern}
 use Rattle.aa_glob_syntax.specs.declared.pattern_error.PatternError.{PatternError}
 
--- a text with something that matches whatever there is in place of each variable; within one, whose name is left out, or not
+-- a text with a pattern that matches everything in place of each variable; within one, whose name is left out, or not
 abbrev pub without_variables : Bool → List ℕ → List ℕ
 without_variables within [] = []
 without_variables true (b ∷ bs) = without_variables (not (b == closing_brace)) bs
 without_variables false (b ∷ bs) =
     if b == at_sign && begins_with_byte opening_brace bs then codes "{,**}" ++ without_variables true bs else b ∷ without_variables false bs
 
--- the same as a pattern, which begins with a slash
+-- that text as a pattern, which begins with a slash
 abbrev pub widened : List ℕ → List ℕ
 widened text = (if begins_with_byte at_sign text then slash ∷ [] else []) ++ without_variables false text
 
--- a path matches what reads; of what doesn't, nothing is known
+-- a path fits what reads as a pattern that matches it; of what doesn't read, nothing is known
 abbrev pub fits_by : List ℕ → Result Pattern PatternError → Bool
 fits_by path (Ok items) = matches items path
 fits_by path (Err error) = false

@@ -18,25 +18,25 @@ pub record LeftOutHead : Type 0 where
 abbrev pub in_file : List ℕ → Head → LeftOutHead
 in_file file head = record { file = file; head = head }
 
--- the heads in the bytes of a file, if there are some
+-- the heads in the bytes of a file, if it has any
 abbrev pub heads_in_bytes : List ℕ → Option (List ℕ) → List LeftOutHead
 heads_in_bytes file None = []
 heads_in_bytes file (Some bytes) = map (in_file file) (heads_of bytes)
 
--- those of a file that is left out
+-- the heads of a file that is left out
 abbrev pub heads_in_file : List File → LeftOut → List LeftOutHead
 heads_in_file files left_out = heads_in_bytes left_out.name (bytes_of files left_out.name)
 
--- those of some
+-- the heads of some files that are left out
 abbrev pub heads_in_files : List File → List LeftOut → List LeftOutHead
 heads_in_files files left_out = flat_map (heads_in_file files) left_out
 
--- those of what is loaded of a folder
+-- the heads of what is loaded of a folder
 abbrev pub heads_loaded : LoadedFolder → List LeftOutHead
 heads_loaded loaded =
     heads_in_files loaded.folder.now.files (left_out_of (file_names (map seen_top loaded.folder.now.top.items)) loaded.policy.outcomes.items)
 
--- those of all files of a folder that are left out
+-- the heads of all files of a folder that are left out
 abbrev pub heads_left_out : Folder → List LeftOutHead
 heads_left_out folder = heads_in_files folder.files (files_left_out folder)
 

@@ -8,10 +8,10 @@ use aa_bytes::begins_with_byte;
 use aa_glob_pattern::Pattern;
 use std::alloc::{AllocError, Global};
 
-// What stands in place of a variable: it matches whatever there is.
+// The pattern in place of a variable: it matches everything.
 const WHATEVER: &[u8] = b"{,**}";
 
-// Appends what stands in place of a byte to a text, by those behind it, where it stands in no variable; and says whether one begins with it.
+// Appends what is in place of a byte to a text, by the bytes after it, where it is in no variable; and returns whether a variable begins with it.
 fn push_byte(byte: u8, behind: &[u8], out: &mut Vec<u8>) -> Result<bool, AllocError>
     ensures { IfOk result (λ within. out.new.items ++ without_variables within behind.now ≡ out.old.items ++ without_variables false (byte ∷ behind.now)) }
 {
@@ -23,7 +23,7 @@ fn push_byte(byte: u8, behind: &[u8], out: &mut Vec<u8>) -> Result<bool, AllocEr
     Ok(false)
 }
 
-// Appends a text to another with what matches whatever there is in place of each variable.
+// Appends a text to another, with a pattern that matches everything in place of each variable.
 fn push_without_variables(text: &[u8], out: &mut Vec<u8>) -> Result<(), AllocError>
     ensures { OnOk result (out.new.items ≡ out.old.items ++ without_variables false text.now) }
 {
@@ -52,7 +52,7 @@ fn widened(alloc: Global, text: &[u8]) -> Result<Vec<u8>, AllocError>
     Ok(pattern)
 }
 
-// Whether a path matches a text, if that reads as a pattern.
+// Whether a text matches a path, if it reads as a pattern.
 fn fits_text(text: Vec<u8>, path: &[u8]) -> bool
     ensures { result ≡ fits_by path.now (reading text.items) }
 {
@@ -62,8 +62,8 @@ fn fits_text(text: Vec<u8>, path: &[u8]) -> bool
     }
 }
 
-/// Whether a path may fit an attachment as it is written in a file that isn't read, if there is one: whatever its variables hold, each matches. So a path that
-/// fits it may be told as one that doesn't only where it reads as no pattern.
+/// Whether a path may fit an attachment as it is written in a file that isn't read, if there is one: each variable may hold anything. For a path
+/// that fits, this is false only where the attachment reads as no pattern.
 ///
 /// # Errors
 ///

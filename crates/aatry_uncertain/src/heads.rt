@@ -1,4 +1,4 @@
-//! The heads of profiles in a text, as far as they can be read of one that is refused.
+//! The heads of profiles in a text, as far as they can be read where it is refused.
 
 ghost use Rattle.std.specs.Prelude.{◌≡◌, ◌++◌, [], ◌+◌, ◌<◌, ◌^◌, IfOk, OnOk, is_some, map, option_map};
 ghost use Rattle.aa_text_tokens.specs.SeenTokens.{seen};
@@ -15,16 +15,16 @@ use std::alloc::{AllocError, Global};
 pub struct Head<'a> {
     /// Its name.
     pub name: &'a [u8],
-    /// What it is attached to: what stands behind its name, if that may be an attachment, or else its name, if that may be.
+    /// The pattern by which it attaches: what follows its name, if that may be an attachment, or else its name, if that may be.
     pub attachment: Option<&'a [u8]>,
 }
 
-// Where tokens stand.
+// Where tokens are.
 #[derive(Clone, Copy)]
 pub struct Place {
     // Within how many blocks.
     pub depth: usize,
-    // Whether within a head, of which the block is still to open.
+    // Whether within a head, whose block is still to open.
     pub begun: bool,
 }
 
@@ -56,7 +56,7 @@ fn own_attachment(name: &[u8]) -> Option<&[u8]>
     if may_attach(name) { Some(name) } else { None }
 }
 
-// The attachment of a profile, by what stands behind its name.
+// The attachment of a profile, by what follows its name.
 fn attachment_behind<'a>(name: &'a [u8], tokens: &[Token<'a>]) -> Option<&'a [u8]>
     ensures { option_map (λ text. text.now) result ≡ attachment_behind name.now (map seen tokens.now) }
 {
@@ -66,7 +66,7 @@ fn attachment_behind<'a>(name: &'a [u8], tokens: &[Token<'a>]) -> Option<&'a [u8
     }
 }
 
-// The head behind the word `profile`.
+// The head after the word `profile`.
 fn named_head<'a>(tokens: &[Token<'a>]) -> Option<Head<'a>>
     ensures { option_map seen_head result ≡ named_head (map seen tokens.now) }
 {
@@ -86,7 +86,7 @@ fn is_keyword(token: Token<'_>) -> bool
     token.kind == TokenKind::Word && token.text == b"profile".as_slice()
 }
 
-// The head that begins with a token, by those behind it.
+// The head that begins with a token, by the tokens after it.
 fn head_at<'a>(token: Token<'a>, tokens: &[Token<'a>]) -> Option<Head<'a>>
     ensures { option_map seen_head result ≡ head_at (seen token.entry) (map seen tokens.now) }
 {
@@ -102,7 +102,7 @@ fn head_at<'a>(token: Token<'a>, tokens: &[Token<'a>]) -> Option<Head<'a>>
     None
 }
 
-// How many blocks stand open behind a token.
+// How many blocks are open after a token.
 fn depth_behind(kind: TokenKind, depth: usize) -> usize
     requires { depth + 1 < 2 ^ 64 }
     ensures { result ≡ depth_behind kind depth }
@@ -114,7 +114,7 @@ fn depth_behind(kind: TokenKind, depth: usize) -> usize
     }
 }
 
-// Whether no head goes on behind a token.
+// Whether a token ends a head.
 fn ends_head(kind: TokenKind) -> bool
     ensures { result ≡ ends_head kind }
 {
@@ -135,7 +135,7 @@ fn head_here<'a>(place: Place, token: Token<'a>, tokens: &[Token<'a>]) -> Option
     }
 }
 
-// The place behind a token, with which a head began or didn't.
+// The place after a token, with which a head began or didn't.
 fn place_behind(place: Place, kind: TokenKind, found: bool) -> Place
     requires { place.depth + 1 < 2 ^ 64 }
     ensures { seen_place result ≡ place_behind (seen_place place) kind found }
@@ -146,7 +146,7 @@ fn place_behind(place: Place, kind: TokenKind, found: bool) -> Place
     }
 }
 
-// Appends a head to others, if there is one.
+// Appends a head to `heads`, if there is one.
 fn push_head<'a>(head: Option<Head<'a>>, heads: &mut Vec<Head<'a>>) -> Result<(), AllocError>
     ensures { OnOk result (seen_heads heads.new.items ≡ seen_heads heads.old.items ++ with_head (option_map seen_head head.entry) []) }
 {
@@ -175,9 +175,9 @@ fn heads_among<'a>(alloc: Global, tokens: &[Token<'a>]) -> Result<Vec<Head<'a>>,
     Ok(heads)
 }
 
-/// The heads of the profiles in a text, in its order, as far as they can be read, whether or not it is refused: outside of blocks the name behind each word
-/// `profile`, with what stands behind that where this may be an attachment; and each text alone that begins as an attachment does, with `/` or
-/// a variable. Nothing is read of a text that can't be cut into tokens, nor behind a block that isn't closed.
+/// The heads of the profiles in a text, in its order, as far as they can be read, whether or not it is refused: outside of blocks the name after
+/// each word `profile`, with what follows that where this may be an attachment; and each text alone that begins like an attachment, with `/` or a
+/// variable. Nothing is read of a text that can't be cut into tokens, nor after a block that isn't closed.
 ///
 /// # Errors
 ///

@@ -31,7 +31,7 @@ pub struct LeftOutHeads<'a> {
     pub heads: Vec<LeftOutHead<'a>>,
 }
 
-// Appends the heads of a file to others.
+// Appends the heads of a file to `found`.
 fn push_heads<'a>(
     file: &'a str,
     heads: &[Head<'a>],
@@ -47,7 +47,7 @@ fn push_heads<'a>(
     Ok(())
 }
 
-// The same of a file by its bytes, if there are some.
+// Appends the heads of a file to `found`, by its bytes, if it has any.
 fn push_of_bytes<'a>(
     alloc: Global,
     file: &'a str,
@@ -63,7 +63,7 @@ fn push_of_bytes<'a>(
     }
 }
 
-// The same of a file that is left out.
+// Appends the heads of a file that is left out to `found`.
 fn push_of_file<'a>(
     alloc: Global,
     files: &'a Files,
@@ -121,8 +121,8 @@ fn is_among(heads: &[LeftOutHead<'_>], name: &[u8]) -> bool
     false
 }
 
-/// The heads of profiles in the files of a loaded folder that are left out, as far as they can be read (`heads_of`). Of a file that can't be read there is
-/// none. They are lent by the folder, and what is loaded of it may change meanwhile.
+/// The heads of profiles in the files of a loaded folder that are left out, as far as they can be read (`heads_of`). A file that can't be read has
+/// none. They borrow from the folder alone, so that what is loaded of it may change meanwhile.
 ///
 /// # Errors
 ///

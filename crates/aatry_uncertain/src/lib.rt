@@ -1,4 +1,4 @@
-//! What files that are left out leave uncertain: the names of profiles that can still be read of them, and what these may be attached to.
+//! What files that are left out leave uncertain: the names of profiles that can still be read of them, and the patterns by which these may attach.
 #![tactic(auto)]
 
 mod fitting;

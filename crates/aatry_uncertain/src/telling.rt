@@ -1,4 +1,4 @@
-//! What is told of profiles of files that are left out, on which an answer could hang.
+//! The report on profiles of files that are left out, on which an answer could depend.
 
 ghost use Rattle.std.specs.Prelude.{◌≡◌, ◌++◌, IfOk, OnOk, None, flat_map, option_map};
 ghost use Rattle.aatry_report.specs.SeenRecord.{seen_record};
@@ -13,7 +13,7 @@ use aa_profile_data::cut_full_name;
 use aatry_report::{Form, Record, Teller, path_below, push_shown};
 use std::alloc::{AllocError, Global};
 
-// Appends what a path may fit to a line, where that is told.
+// Appends the pattern by which a profile may attach to a line, if it is given.
 fn push_attachment(pattern: Option<&[u8]>, out: &mut Vec<u8>) -> Result<(), AllocError>
     ensures { OnOk result (out.new.items ≡ out.old.items ++ by_attachment (option_map (λ text. text.now) pattern.entry)) }
 {
@@ -45,7 +45,7 @@ fn push_line(
     Ok(())
 }
 
-// Adds the pattern to a record, where that is told.
+// Puts the pattern into a record, if it is given.
 fn put_pattern(alloc: Global, pattern: Option<&[u8]>, into: &mut Record) -> Result<(), AllocError>
     ensures { OnOk result (seen_record into.new ≡ with_pattern (option_map (λ text. text.now) pattern.entry) (seen_record into.old)) }
 {
@@ -71,7 +71,7 @@ fn unsure_record(
     Ok(made)
 }
 
-// Appends what is told of it to a text.
+// Appends a profile of a file that is left out to a text, by the file's path, as a line or a record.
 fn push_unsure(
     teller: Teller,
     path: &[u8],
@@ -90,7 +90,7 @@ fn push_unsure(
     }
 }
 
-// The same, if a path may be attached to it.
+// Appends a profile of a file that is left out to a text, if it may attach to a path.
 fn push_start(
     teller: Teller,
     base: &[u8],
@@ -113,7 +113,7 @@ fn push_start(
     )
 }
 
-// The same of each.
+// Appends each profile of files that are left out to a text that may attach to a path.
 fn push_starts(
     teller: Teller,
     base: &[u8],
@@ -131,9 +131,9 @@ fn push_starts(
     Ok(())
 }
 
-/// Appends what is told of the profiles of files that are left out to a text which the program of a path may be attached to, as far as their heads
-/// can be read: a line `uncertain: FILE is left out, with the profile NAME, which may be attached by PATTERN`, or a record of the kind `uncertain`, with
-/// `file`, `name` and `pattern`.
+/// Appends the profiles of files that are left out to a text which may attach to the path of a program, as far as their heads can be read: a line
+/// `uncertain: FILE is left out, with the profile NAME, which may be attached by PATTERN`, or a record of the kind `uncertain`, with `file`, `name`
+/// and `pattern`.
 ///
 /// # Errors
 ///
@@ -150,8 +150,8 @@ pub fn push_unsure_starts(
     push_starts(teller, left_out.base.as_bytes(), path, &left_out.heads, out)
 }
 
-/// Appends what is told of a profile of a file that is left out to a text, whatever it is attached to, by the path of its folder: a line
-/// `uncertain: FILE is left out, with the profile NAME`, or a record of the kind `uncertain`, with `file` and `name`.
+/// Appends a profile of a file that is left out to a text, whatever its attachment, by the path of its folder: a line `uncertain: FILE is left out,
+/// with the profile NAME`, or a record of the kind `uncertain`, with `file` and `name`.
 ///
 /// # Errors
 ///
@@ -168,7 +168,7 @@ pub fn push_unsure_profile(
     push_unsure(teller, &file, left_out.head.name, None, out)
 }
 
-// The same, if it has this name.
+// Appends a profile of a file that is left out to a text, if it has this name.
 fn push_name(
     teller: Teller,
     base: &[u8],
@@ -184,7 +184,7 @@ fn push_name(
     push_unsure_profile(teller, base, left_out, out)
 }
 
-// The same of each.
+// Appends each profile of files that are left out to a text that has this name.
 fn push_names(
     teller: Teller,
     base: &[u8],
@@ -202,8 +202,8 @@ fn push_names(
     Ok(())
 }
 
-/// Appends what is told of the profiles of files that are left out to a text which have the name of the profile in a full name, as far as their heads can
-/// be read (`push_unsure_profile`).
+/// Appends the profiles of files that are left out to a text which have the name of the profile in a full name, as far as their heads can be read
+/// (`push_unsure_profile`).
 ///
 /// # Errors
 ///

@@ -1,4 +1,4 @@
--- What the law on whom `who` tells speaks of.
+-- Definitions for the law on the names that `who` prints.
 use Rattle.std.specs.Prelude.{◌≡◌, Ok, not}
 use Rattle.aa_bytes.specs.Texts.{is_empty}
 use Rattle.aa_decide.specs.Exec.{Asker}
@@ -12,8 +12,8 @@ use Rattle.aatry_requests.specs.Questions.{asked_as}
 use Rattle.aatry_who.specs.Letting.{lets_through, lines_of, told_lines}
 use Rattle.aatry_who.specs.Sought.{sought_in}
 
--- The same question has an answer that is asked by the full name of who is loaded; something is told of it exactly where that lets it through, and what
--- is told goes by that answer.
+-- The question has an answer for the full name of a loaded profile, child or hat as its asker; that is printed exactly where the answer lets the
+-- request through, and with that answer.
 abbrev pub IsToldByAnswer : Form → Folder → Question → Asker → Type 0
 IsToldByAnswer form folder question who =
     let name = full_name_at who.entry.profile who.child in

@@ -1,4 +1,4 @@
--- Which profiles, children and hats would let through what is asked for (docs/aatry.md).
+-- Which profiles, children and hats would let a request through (docs/aatry.md).
 use Rattle.std.specs.Prelude.{ℕ, Bool, true, false, if◌then◌else◌, List, [], ◌∷◌, ◌++◌, Option, None, Some, Result, Ok, Err, codes, flat_map}
 use Rattle.serde_json.specs.Data.{Members}
 use Rattle.aa_bytes.specs.Bytes.{line_feed}
@@ -26,7 +26,7 @@ use Rattle.aatry_why_lines.specs.Why.{allowing_lines}
 use Rattle.aatry_why_lines.specs.Written.{Written}
 use Rattle.aatry_who.specs.Sought.{Sought, answer_to, led}
 
--- what is answered so is let through; where there is no answer, no rule is asked, and all is
+-- a request with this answer is let through; where there is no answer, no rule decides, and everything is
 abbrev pub lets_through : Option Answer → Bool
 lets_through None = true
 lets_through (Some Allow) = true
@@ -34,11 +34,11 @@ lets_through (Some Complain) = true
 lets_through (Some Deny) = false
 lets_through (Some Refuse) = false
 
--- a record of who is let through: its full name, what it is answered, and under what a program runs that it starts
+-- a record of a name that lets the request through: its full name, the answer, and under which profile a program runs that it starts
 abbrev pub let_record : List ℕ → List ℕ → Option Started → Members
 let_record name text to = with_started to (with_text (codes "answer") text (with_text (codes "name") name (record_of (codes "let"))))
 
--- what is told of it: a line of its name and its answer, or the record
+-- the line of its name and its answer, or the record
 abbrev pub let_line : Form → List ℕ → List ℕ → Option Started → List ℕ
 let_line Lines name text to = shown name ++ codes ": " ++ text ++ line_feed ∷ []
 let_line Records name text to = record_line (let_record name text to)
@@ -53,42 +53,42 @@ written_of folder part = record {
   places = part.places;
 }
 
--- the rules of who is in a mode are asked; they aren't where it is disabled, which is no mode
+-- the rules of a profile, child or hat in a mode decide; they don't where it is disabled, which is no mode
 abbrev pub asks_rules : Option Mode → Bool
 asks_rules (Some mode.Enforce) = true
 asks_rules (Some mode.Complain) = true
 asks_rules (Some mode.Unconfined) = false
 asks_rules None = false
 
--- the lines of the rules of a part that allow something of a request, where they are asked, if there is a part
+-- the lines of the rules of a part that allow some of a request's needs, where they decide, if there is a part
 abbrev pub rule_lines : Form → FolderParts → Option Part → Request → List ℕ
 rule_lines form folder None request = []
 rule_lines form folder (Some part) request = if asks_rules part.section.mode then allowing_lines form (written_of folder part) request else []
 
--- by which rules who has a name is let through: where its mode does it, by none
+-- the rules by which a name lets the request through: none, where its mode does
 abbrev pub by_rules : Form → Sought → List ℕ → Option Answer → List ℕ
 by_rules form sought name (Some Allow) = rule_lines form sought.folder (part_of sought.folder.parts name) (rule_request sought.question)
 by_rules form sought name _ = []
 
--- what is told of who has a name and is answered so, and by which rules. Nothing is told where that isn't let through.
+-- a name with its answer, and by which rules it lets the request through; nothing where it doesn't
 abbrev pub told_lines : Form → Sought → List ℕ → Answered → List ℕ
 told_lines form sought name told =
     if lets_through told.answer then let_line form name told.text (led sought name told.answer) ++ by_rules form sought name told.answer else []
 
--- the same of any answer: of a name that isn't loaded nothing is told
+-- the lines for any answer: a name that isn't loaded has none
 abbrev pub answer_lines : Form → Sought → List ℕ → Result Answered Refusal → List ℕ
 answer_lines form sought name (Ok told) = told_lines form sought name told
 answer_lines form sought name (Err refusal) = []
 
--- the lines of who has a name, by what it is answered
+-- the lines of a name, by its answer
 abbrev pub named_lines : Form → Sought → List ℕ → List ℕ
 named_lines form sought name = answer_lines form sought name (answer_to sought name)
 
--- the lines of a profile, or of its child or hat at a place
+-- the lines of a profile, or of its child or hat at an index
 abbrev pub lines_of : Form → Sought → Loaded → Option ℕ → List ℕ
 lines_of form sought entry child = named_lines form sought (full_name_at entry.profile child)
 
--- the lines of a child or a hat by its place
+-- the lines of a child or a hat by its index
 abbrev pub child_lines : Form → Sought → Loaded → ℕ → Child → List ℕ
 child_lines form sought entry place child = lines_of form sought entry (Some place)
 

@@ -1,4 +1,4 @@
--- What is told of who would be let through by the policy of a folder (docs/aatry.md).
+-- The report on who would let a request through by the policy of a folder (docs/aatry.md).
 use Rattle.std.specs.Prelude.{◌≡◌, ℕ, Bool, not, List, ◌++◌, Ok, Option}
 use Rattle.aa_bytes.specs.Texts.{is_empty}
 use Rattle.aa_profile_parsing.specs.declared.language.Language.{Language}
@@ -18,24 +18,24 @@ use Rattle.aatry_who.specs.Letting.{who_lines}
 use Rattle.aatry_who.specs.Sought.{sought_in}
 use Rattle.aatry_who.specs.Unsure.{unsure_in}
 
--- who lets through what a question asks for, and by which rules
+-- the names that let a question's request through, and by which rules
 abbrev pub let_by : Form → Folder → Question → List ℕ
 let_by form folder question = who_lines form (sought_in folder question) (policy_in folder)
 
--- somebody is told
+-- there is such a name
 abbrev pub is_let : List ℕ → Bool
 is_let text = not (is_empty text)
 
--- The words ask a question of nobody in particular, and a text tells the files that are left out, at length or not, who would be let through, and of
--- whom that can't be told.
+-- The words make a question of no one in particular, and a text has the files that are left out, verbose or not, the names that would let the
+-- request through, and those of which that isn't known.
 abbrev pub IsWhoTold : Form → Bool → Folder → List (List ℕ) → List ℕ → Bool → Type 0
 IsWhoTold form verbose folder words text found =
     (question : Question) × (letting_question words ≡ Ok question)
     × (text ≡ left_out_in form verbose folder ++ let_by form folder question ++ unsure_in form folder)
     × (found ≡ is_let (let_by form folder question))
 
--- The files at the top of the folder, with all that lies below it, were asked for by a language: the text tells who would be let through, and it is
--- noted how many files are left out. It failed where nobody would.
+-- The files at the top of the folder, with all that lies below it, were asked for by a language: the text has the names that would let the request
+-- through, and it is noted how many files are left out. It failed where there is none.
 pub record IsWhoToldBelow (form : Form) (verbose : Bool) (language : Language) (folders : ToldFolders) (known : Known) (base : List ℕ) (words : List (List ℕ)) (report : Report) : Type 0 where
   pub files : List File
   pub unread : List (Option UnreadFault)

@@ -1,4 +1,4 @@
-//! What holds of those whom `who` tells, as a law over the definitions that the calls are proved to follow.
+//! What holds of the names that `who` prints, as a law over the definitions that the calls are proved to follow.
 
 ghost use Rattle.aa_decide.specs.Exec.{Asker};
 ghost use Rattle.aa_set_answers.specs.Laws.{IsListed};
@@ -9,9 +9,9 @@ ghost use Rattle.aatry_who.specs.Laws.{IsToldByAnswer};
 
 use aatry_policy::which_rules_parts_have;
 
-/// `who` tells a profile, child or hat exactly where `ask` of its full name is answered so that what is asked for is let through, and with that answer: a
-/// question for a file, a capability or sockets is allowed, or let through by its mode, or nothing confines who asks; and a program that it starts runs.
-/// The words of `who` with the name put in are those of this question (`aatry_requests::what_words_ask_without_who_asks`).
+/// `who` prints a profile, child or hat exactly where `ask` of its full name is answered so that the request is let through, and with that answer: a
+/// question for a file, a capability or sockets is allowed, or let through by its mode, or nothing confines the asker; and a program that it starts
+/// runs. The words of `who` with the name put in are those of this question (`aatry_requests::what_words_ask_without_who_asks`).
 pub fn whom_who_tells()
     ensures { (form : Form) (folder : Folder) (question : Question) (who : Asker)
         → IsListed (policy_in folder) who

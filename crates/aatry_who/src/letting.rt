@@ -1,4 +1,4 @@
-//! Which profiles, children and hats would let through what is asked for.
+//! Which profiles, children and hats would let a request through.
 
 ghost use Rattle.std.specs.Prelude.{◌≡◌, ◌∷◌, [], ◌++◌, IfOk, None, OnOk, option_map};
 ghost use Rattle.aa_decide_ready.specs.Slots.{filled};
@@ -28,7 +28,7 @@ use aatry_why::put_started;
 use aatry_why_lines::{WrittenRules, push_allowing};
 use std::alloc::{AllocError, Global};
 
-// Whether what is answered so is let through; where there is no answer, no rule is asked, and all is.
+// Whether a request with this answer is let through; where there is no answer, no rule decides, and everything is.
 fn lets_through(answer: Option<Answer>) -> bool
     ensures { result ≡ lets_through answer }
 {
@@ -38,7 +38,7 @@ fn lets_through(answer: Option<Answer>) -> bool
     }
 }
 
-// Appends the line of who is let through to a text, with what it is answered.
+// Appends the line of a name that lets the request through to a text, with the answer.
 fn push_let_line(text: &mut Vec<u8>, name: &[u8], answer: &[u8]) -> Result<(), AllocError>
     ensures { OnOk result (text.new.items ≡ text.old.items ++ let_line form.Lines name.now answer.now None) }
 {
@@ -49,7 +49,7 @@ fn push_let_line(text: &mut Vec<u8>, name: &[u8], answer: &[u8]) -> Result<(), A
     Ok(())
 }
 
-// The record of who is let through.
+// The record of a name that lets the request through.
 fn let_record(
     alloc: Global,
     sought: &Sought<'_>,
@@ -67,7 +67,7 @@ fn let_record(
     Ok(made)
 }
 
-// Appends what is told of who is let through to a text.
+// Appends a name that lets the request through to a text, as a line or a record.
 fn push_let(
     text: &mut Vec<u8>,
     teller: Teller,
@@ -99,7 +99,7 @@ fn written_of<'a>(folder: &FolderParts<'a>, part: &Part<'a>) -> WrittenRules<'a>
     }
 }
 
-// Whether the rules of who is in a mode are asked.
+// Whether the rules of a profile, child or hat in a mode decide.
 fn asks_rules(mode: Option<Mode>) -> bool
     ensures { result ≡ asks_rules mode }
 {
@@ -109,7 +109,7 @@ fn asks_rules(mode: Option<Mode>) -> bool
     }
 }
 
-// Appends the lines of the rules of a part to a text that allow something of a request, where they are asked, if there is a part.
+// Appends the lines of the rules of a part that allow some of a request's needs to a text, where they decide, if there is a part.
 fn push_rules(
     text: &mut Vec<u8>,
     teller: Teller,
@@ -129,7 +129,7 @@ fn push_rules(
     push_allowing(teller, &written_of(folder, part), request, text)
 }
 
-// Appends by which rules who has a name is let through to a text: where its mode does it, by none.
+// Appends the rules by which a name lets the request through to a text; none, where its mode does.
 fn push_by_rules(
     text: &mut Vec<u8>,
     teller: Teller,
@@ -154,7 +154,7 @@ fn push_by_rules(
     }
 }
 
-// Appends what is told of who has a name and is answered so to a text, and by which rules, if it is let through.
+// Appends a name with its answer to a text, and by which rules, if it lets the request through.
 fn push_told(
     text: &mut Vec<u8>,
     teller: Teller,
@@ -171,7 +171,7 @@ fn push_told(
     push_by_rules(text, teller, sought, name, told.answer)
 }
 
-// Appends the lines of who has a name to a text, by what it is answered.
+// Appends the lines of a name to a text, by its answer.
 fn push_named(
     text: &mut Vec<u8>,
     teller: Teller,
@@ -191,7 +191,7 @@ fn push_named(
     }
 }
 
-// Appends the lines of a profile, or of its child or hat at a place, to a text.
+// Appends the lines of a profile, or of its child or hat at an index, to a text.
 fn push_lines(
     text: &mut Vec<u8>,
     teller: Teller,
@@ -273,11 +273,11 @@ fn push_slots(
     Ok(())
 }
 
-/// The lines of the profiles, children and hats of a policy set that would let through what a question asks for, which is asked of nobody in particular: a
-/// line for each, with its full name and what it is answered where it asks, as `ask` tells that; and below one that allows it the rules that allow
-/// something of it, as a folder has them of that name (`aatry_why_lines::push_allowing`). One in mode unconfined or disabled is told with `unconfined`,
-/// or with under what the program runs that it starts: no rule is asked, and all is let through. They stand in the order of the set, children and hats
-/// behind their profile. As records the lines are of the kind `let`, with the members `name` and `answer`, and of a program that is started
+/// The lines of the profiles, children and hats of a policy set that would let a question's request through, whoever its asker: a line for each,
+/// with its full name and the answer where it is the asker, as `ask` prints that; and below one that allows it the rules that allow some of the
+/// request's needs, as a folder has them of that name (`aatry_why_lines::push_allowing`). One in mode unconfined or disabled has `unconfined`, or
+/// under which profile the program runs that it starts: no rule decides, and everything is let through. They are in the order of the set, children
+/// and hats after their profile. As records the lines are of the kind `let`, with the members `name` and `answer`, and of a program that is started
 /// `leads_to` and `on` (`aatry_why::put_started`); and of the kind `rule`.
 ///
 /// # Errors

@@ -1,4 +1,4 @@
-//! The command `who`: which profiles, children and hats of a folder would let through what a question asks for, and by which rules.
+//! The command `who`: which profiles, children and hats of a folder would let a request through, and by which rules.
 #![tactic(auto)]
 
 mod laws;

@@ -1,4 +1,4 @@
-//! What is asked of a policy, and what each who may ask is answered.
+//! A question to a policy, and the answer for each asker.
 
 ghost use Rattle.std.specs.Prelude.{◌≡◌, IfErr, IfOk, Ok};
 ghost use Rattle.aa_decide_ready.specs.Slots.{filled};
@@ -13,22 +13,22 @@ use aatry_policy::FolderParts;
 use aatry_requests::rule_request;
 use std::alloc::{AllocError, Global};
 
-/// A question, which is asked of nobody in particular, and the policy of a folder.
+/// A question, whose asker is no one in particular, and the policy of a folder.
 #[derive(Drop)]
 pub struct Sought<'a> {
     /// The profiles, children and hats of the folder, with where their rules are written.
     pub folder: &'a FolderParts<'a>,
-    /// The slots that they are loaded in.
+    /// The slots of its policy set.
     pub slots: IndexedSlots<'a>,
     /// The question.
     pub question: &'a Question<'a>,
 }
 
-/// What is answered where who has a full name asks the question.
+/// The answer to the question with this full name as the asker.
 ///
 /// # Errors
 ///
-/// `Absent` where nobody of the name is loaded, and `Memory` where memory ran out.
+/// `Absent` where nothing of the name is loaded, and `Memory` where memory ran out.
 pub fn answer_to(alloc: Global, sought: &Sought<'_>, name: &[u8]) -> Result<Answered, Refusal>
     ensures answered { IfOk result (λ told. answer_to (seen_sought sought.now) name.now ≡ Ok told) }
     ensures refused { IfErr result (IsRefusalOf (answer_to (seen_sought sought.now) name.now)) }
@@ -41,7 +41,7 @@ pub fn answer_to(alloc: Global, sought: &Sought<'_>, name: &[u8]) -> Result<Answ
     }
 }
 
-// Under what the program of a path runs that who has a full name starts, if it is there.
+// Under which profile the program of a path runs that a full name starts, if that is loaded.
 fn started_by<'a>(
     alloc: Global,
     slots: &IndexedSlots<'a>,
@@ -57,7 +57,8 @@ fn started_by<'a>(
     }
 }
 
-/// The same, where the question is about the start of a program and its answer is that it is allowed.
+/// Under which profile the program runs that a full name starts, where the question is about the start of a program and its answer is that it is
+/// allowed.
 ///
 /// # Errors
 ///

@@ -1,4 +1,4 @@
-//! Of whom it can't be told whether they would be let through: of the profiles of files that are left out.
+//! Profiles of files that are left out, of which it isn't known whether they would let a request through.
 
 ghost use Rattle.std.specs.Prelude.{◌≡◌, ◌++◌, OnOk};
 ghost use Rattle.aa_decide_ready.specs.Slots.{filled};
@@ -12,7 +12,7 @@ use aatry_report::Teller;
 use aatry_uncertain::{LeftOutHead, LeftOutHeads, heads_left_out, push_unsure_profile};
 use std::alloc::AllocError;
 
-// Appends what is told of a profile of a file that is left out to a text, where nobody of its name is loaded.
+// Appends a profile of a file that is left out to a text, where nothing of its name is loaded.
 fn push_unsure(
     teller: Teller,
     slots: &IndexedSlots<'_>,
@@ -28,7 +28,7 @@ fn push_unsure(
     }
 }
 
-// The same of each.
+// Appends each profile of files that are left out to a text, where nothing of its name is loaded.
 fn push_each_unsure(
     teller: Teller,
     slots: &IndexedSlots<'_>,
@@ -46,8 +46,8 @@ fn push_each_unsure(
     Ok(())
 }
 
-/// Appends what is told of the profiles of the files of a loaded folder to a text that are left out, as far as their heads can be read, where nobody of
-/// their name is loaded: whether they would be let through can't be told.
+/// Appends the profiles of the files of a loaded folder that are left out to a text, as far as their heads can be read, where nothing of their name
+/// is loaded: it isn't known whether they would let a request through.
 ///
 /// # Errors
 ///

@@ -1,4 +1,4 @@
-//! Who would be let through by the policy of a folder.
+//! Which profiles would let a request through by the policy of a folder.
 
 ghost use Rattle.std.specs.Prelude.{◌≡◌, ◌++◌, ◌⊎◌, Bool, IfErr, IfOk, OnOk, map, string_bytes};
 ghost use Rattle.aa_set_commands.specs.Question.{seen_question};
@@ -23,14 +23,14 @@ use aatry_report::Teller;
 use aatry_requests::letting_question;
 use std::alloc::AllocError;
 
-// Whether a text tells somebody.
+// Whether a text has a name.
 fn is_let(text: &[u8]) -> bool
     ensures { result ≡ is_let text.now }
 {
     !text.is_empty()
 }
 
-// Who lets through what a question asks for, and by which rules, told by the policy of a folder that is loaded.
+// The names that let a question's request through, and by which rules, by the policy of a loaded folder.
 fn let_by(
     teller: Teller,
     loaded: &LoadedFolder<'_>,
@@ -45,7 +45,7 @@ fn let_by(
     who_lines(teller, &by_parts(loaded.folder, &parts), &set, question)
 }
 
-// Appends the same to a text, and of whom it can't be told; and says whether somebody lets it through.
+// Appends the names that let a question's request through to a text, and those of which it isn't known; returns whether there is one that does.
 fn push_let_by(
     teller: Teller,
     loaded: &LoadedFolder<'_>,
@@ -65,7 +65,7 @@ fn push_let_by(
     Ok(is_let(&own))
 }
 
-// The same of a folder that was read, by words, with what is told of the files that are left out before it, and what is noted of them.
+// The report on a folder that was read, by words, with the files that are left out in front, and the notes on them.
 fn told_of(teller: Teller, folder: &PolicyFolder<'_>, words: &[String]) -> Result<Report, Fault>
     ensures told { IfOk result (λ report. (found : Bool) × IsWhoTold teller.form teller.verbose (seen_folder folder.now) (map string_bytes words.now) report.text.items found
         × (report.failed ≡ failed_by found)) }
@@ -83,14 +83,14 @@ fn told_of(teller: Teller, folder: &PolicyFolder<'_>, words: &[String]) -> Resul
     Ok(report)
 }
 
-/// Which profiles, children and hats of a folder, read by a language, would let through what a question asks for, told in a form. The words are those of
-/// the question from which who asks is left out (`aatry_requests::letting_question`). Reads the folder as `aatry_folder::policy_below` does. First
-/// come the files that are left out, where they are told, and it is noted how many they are (`aatry_policy::load_folder`). Then comes a line for
-/// each, with its full name and what it is answered where it asks: `allow` or, in complain mode, `complain`, and of the start of a program under what
-/// that runs, or `complain null`; and below one that allows it the rules that allow something of it (`aatry_why_lines::push_allowing`). Where one is in
-/// mode unconfined, none of its rules is asked, and all is let through: it is told with `unconfined`, or likewise under what the program runs. They stand
-/// in the order of the set, children and hats behind their profile. One failed where nobody is told. Behind all stand the profiles of files that are left out, of
-/// which it can't be told whether they would be let through (`push_unsure_in`).
+/// Which profiles, children and hats of a folder, read by a language, would let a question's request through, in a form. The words are those of the
+/// question without the asker (`aatry_requests::letting_question`). The folder is read as by `aatry_folder::policy_below`. First come the files that
+/// are left out, where these are reported, and it is noted how many they are (`aatry_policy::load_folder`). Then comes a line for each, with its
+/// full name and the answer where it is the asker: `allow` or, in complain mode, `complain`, and for the start of a program under which profile that
+/// runs, or `complain null`; and below one that allows it the rules that allow some of the request's needs (`aatry_why_lines::push_allowing`). Where
+/// one is in mode unconfined, none of its rules decides, and everything is let through: it has `unconfined`, or likewise under which profile the
+/// program runs. They are in the order of the set, children and hats after their profile. One failed where there is none. Last come the profiles of
+/// files that are left out, of which it isn't known whether they would let the request through (`push_unsure_in`).
 ///
 /// As records the lines are of the kind `let`, with the members `name` and `answer`, and `leads_to` and `on` of a program that is started
 /// (`aatry_why::put_started`); and of the kind `rule`.
@@ -99,7 +99,7 @@ fn told_of(teller: Teller, folder: &PolicyFolder<'_>, words: &[String]) -> Resul
 ///
 /// - `Unreadable` with the first folder or file that can't be read.
 /// - `TooMany` where there are more than 65,536 files and folders.
-/// - `BadQuestion` where the words ask no question.
+/// - `BadQuestion` where the words make no question.
 /// - `NoMemory` where memory ran out.
 pub fn who_folder<F: Folders, D: FileSystem>(
     teller: Teller,

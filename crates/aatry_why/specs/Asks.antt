@@ -1,4 +1,4 @@
--- Which question the line of a log was read as (docs/aatry.md, "`aatry why`").
+-- The question as which the line of a log was read (docs/aatry.md, "`aatry why`").
 use Rattle.std.specs.Prelude.{ℕ, List, [], ◌∷◌, ◌++◌, codes}
 use Rattle.serde_json.specs.Data.{Members}
 use Rattle.aa_bytes.specs.Bytes.{line_feed}
@@ -8,20 +8,20 @@ use Rattle.aatry_report.specs.declared.form.Form.{Form}
 use Rattle.aatry_report.specs.declared.form.Form.TheVariants.{Lines, Records}
 use Rattle.aatry_requests.specs.Texts.{question_text}
 
--- a question as a line tells it
+-- the line of a question
 abbrev pub asks_line : Question → List ℕ
 asks_line question = codes "# asks: " ++ question_text question ++ line_feed ∷ []
 
--- a record of it
+-- the record of a question
 abbrev pub request_record : Question → Members
 request_record question = with_text (codes "question") (question_text question) (record_of (codes "request"))
 
--- one of them
+-- the line or record of a question
 abbrev pub asks_text : Form → Question → List ℕ
 asks_text Lines question = asks_line question
 asks_text Records question = record_line (request_record question)
 
--- what is told of the question that words ask: it itself where the words are the line of a log, and of other words nothing, since they say it
+-- the question of words: its line or record where the words are the line of a log, and nothing for other words, since they are the question
 abbrev pub asks_of : Form → List (List ℕ) → Question → List ℕ
 asks_of form (line ∷ []) question = asks_text form question
 asks_of form words question = []

@@ -1,4 +1,4 @@
--- What is told of those that a path may be attached to.
+-- The candidates that may attach to a path.
 use Rattle.std.specs.Prelude.{ℕ, ◌+◌, if◌then◌else◌, List, [], ◌∷◌, ◌++◌, map, Option, None, Some, codes}
 use Rattle.serde_json.specs.Data.{Members}
 use Rattle.aa_bytes.specs.Bytes.{line_feed}
@@ -14,7 +14,7 @@ use Rattle.aatry_report.specs.Records.{record_line, record_of, with_text}
 use Rattle.aatry_report.specs.declared.form.Form.{Form}
 use Rattle.aatry_report.specs.declared.form.Form.TheVariants.{Lines, Records}
 
--- the words that tell how it comes out
+-- the words for how a candidate ranks
 abbrev pub standing_words : Standing → List ℕ
 standing_words Attached = codes "attached"
 standing_words Tied = codes "equally near"
@@ -38,12 +38,12 @@ line_by Lines standing candidate (Some pattern) =
     ++ codes " by " ++ written_text pattern ++ line_feed ∷ []
 line_by Records standing candidate (Some pattern) = record_line (attachment_record standing candidate pattern)
 
--- the line of the candidate at a place among those of some ranks
+-- the line of the candidate at an index, by its rank among those of all candidates
 abbrev pub candidate_line : Form → List ℕ → List ℕ → ℕ → Candidate → List ℕ
 candidate_line form path ranks place candidate =
     line_by form (standing_of ranks place (rank_of path candidate)) candidate (best_pattern path (patterns_of candidate))
 
--- the line of each, where the first stands at this place
+-- the line of each, where the first has this index
 abbrev pub lines_from : Form → List ℕ → List ℕ → ℕ → List Candidate → List ℕ
 lines_from form path ranks place [] = []
 lines_from form path ranks place (candidate ∷ candidates) =

@@ -1,4 +1,4 @@
--- The loaded name that may have been meant, where nobody of a name is loaded.
+-- The loaded name that may have been meant, where nothing of a name is loaded.
 use Rattle.std.specs.Prelude.{ℕ, List, [], map, Option, None}
 use Rattle.aa_decide_ready.specs.Entries.{Loaded}
 use Rattle.aa_set_commands.specs.declared.refusal.RefusalKind.{RefusalKind}
@@ -10,11 +10,12 @@ use Rattle.aatry_policy.specs.Parts.{Part, set_parts}
 abbrev pub names_of : List Part → List (List ℕ)
 names_of parts = map (λ part. part.name) parts
 
--- the full names of a policy set: each profile's, and behind it those of its children and hats
+-- the full names of a policy set: each profile's, followed by those of its children and hats
 abbrev pub full_names : List Loaded → List (List ℕ)
 full_names entries = names_of (set_parts entries [])
 
--- The name that may have been meant by who asks, where it isn't there: the first that ends with it, as `/usr/bin/irssi` with `irssi`, and else the nearest.
+-- The name that may have been meant by the asker's, where that doesn't exist: the first that ends with it, as `/usr/bin/irssi` with `irssi`, and
+-- else the nearest.
 abbrev pub meant_name : List Loaded → List ℕ → RefusalKind → Option (List ℕ)
 meant_name entries who Absent = near_path who (full_names entries)
 meant_name entries who _ = None

@@ -1,4 +1,4 @@
--- What is told of where a transition leads (docs/policy.md, "The start of a program").
+-- The report on where a transition leads (docs/policy.md, "The start of a program").
 use Rattle.std.specs.Prelude.{ℕ, if◌then◌else◌, is_some, List, [], ◌∷◌, ◌++◌, Option, None, Some, codes, option_and_then}
 use Rattle.std.specs.Option.{option_map}
 use Rattle.serde_json.specs.Data.{Members}
@@ -20,12 +20,12 @@ use Rattle.aatry_report.specs.Records.{record_line, record_of, with_text}
 use Rattle.aatry_report.specs.declared.form.Form.{Form}
 use Rattle.aatry_report.specs.declared.form.Form.TheVariants.{Lines, Records}
 
--- a name, as a line writes names, or as it is
+-- a name, quoted as in lines, or as it is
 abbrev pub name_text : Form → List ℕ → List ℕ
 name_text Lines name = written_text name
 name_text Records name = name
 
--- a stack of these members, on what has this name, if it is on something
+-- a stack of these members, on a base of this name, if it has one
 abbrev pub stacked_text : Form → Option (List ℕ) → List (List ℕ) → List ℕ
 stacked_text form base members = name_text form (stack_name base members)
 
@@ -37,11 +37,11 @@ started_text form Unconfined = codes "unconfined"
 started_text form Null = []
 started_text form Nowhere = []
 
--- the same of what a transition leads to, if it leads somewhere
+-- the destination of a transition as it is printed, if it leads somewhere
 abbrev pub destination_text : Form → Option Started → Option (List ℕ)
 destination_text form to = option_map (started_text form) to
 
--- the name of what it is on, if a program runs under a stack that is on something
+-- the name of the base, if a program runs under a stack that is on one
 abbrev pub stack_base : Started → Option (List ℕ)
 stack_base (Under entry child) = None
 stack_base (Stacked base members) = option_map base_name base
@@ -49,29 +49,29 @@ stack_base Unconfined = None
 stack_base Null = None
 stack_base Nowhere = None
 
--- the same of what a transition leads to, if it leads somewhere
+-- the name of the base of the stack to which a transition leads, if it leads to one that is on a base
 abbrev pub destination_base : Option Started → Option (List ℕ)
 destination_base to = option_and_then stack_base to
 
--- of a stack one of its names isn't there, or what it is on
+-- one of the names of a stack doesn't exist, or its base
 abbrev pub stack_lack : List ℕ → List ℕ
 stack_lack name = written_text name ++ codes " isn't in force as a whole"
 
--- a name isn't there. Who asks is always there, and so is no profile.
+-- a name doesn't exist. The asker always exists, and so does no profile.
 abbrev pub name_lack : List ℕ → Destination → List ℕ
 name_lack name to.Profile = written_text name ++ codes " isn't in force"
 name_lack name to.Child = written_text name ++ codes " is no child or hat of who asks"
 name_lack name to.Inherit = []
 name_lack name to.Unconfined = []
 
--- nothing is attached
+-- nothing attaches
 abbrev pub attachment_lack : Destination → List ℕ
 attachment_lack to.Profile = codes "no profile in force is attached"
 attachment_lack to.Child = codes "no child is attached"
 attachment_lack to.Inherit = []
 attachment_lack to.Unconfined = []
 
--- what isn't there, where a destination leads nowhere
+-- what doesn't exist, where a destination leads nowhere
 abbrev pub lack_text : Option (List ℕ) → Destination → List ℕ
 lack_text None destination = attachment_lack destination
 lack_text (Some name) destination = if is_some (stack_of name) then stack_lack name else name_lack name destination
@@ -81,17 +81,17 @@ abbrev pub fallback_text : Option (List ℕ) → List ℕ
 fallback_text None = codes ", so it leads nowhere"
 fallback_text (Some to) = codes ", so it falls back to " ++ to
 
--- what a stack is on, if it is on something
+-- the base of a stack, if it has one
 abbrev pub on_text : Option (List ℕ) → List ℕ
 on_text None = []
 on_text (Some base) = codes ", on " ++ written_text base
 
--- where a word leads, and what the stack is on that it leads to; or else what isn't there, and where its fallback leads
+-- where a word leads, and the base of the stack to which it leads; or else what doesn't exist, and where its fallback leads
 abbrev pub lead_text : List ℕ → Option (List ℕ) → Option (List ℕ) → Option (List ℕ) → List ℕ
 lead_text lack (Some to) base fallback = codes "leads to " ++ to ++ on_text base
 lead_text lack None base fallback = lack ++ fallback_text fallback
 
--- what a transition's word leads to isn't there
+-- what a transition's word leads to and doesn't exist
 abbrev pub lack_of : Transition → List ℕ
 lack_of transition = lack_text transition.target (row transition.word).destination
 
@@ -100,35 +100,35 @@ abbrev pub with_fallback : Option (List ℕ) → Members → Members
 with_fallback None members = members
 with_fallback (Some to) members = with_text (codes "falls_back_to") to members
 
--- a record with what a stack is on, if it is on something
+-- a record with the base of a stack, if it has one
 abbrev pub with_base : Option (List ℕ) → Members → Members
 with_base None members = members
 with_base (Some base) members = with_text (codes "on") base members
 
--- a record with the name of what something leads to, and what the stack is on that this is, if it is on something
+-- a record with the name of a destination, and the base of the stack that this is, if it has one
 abbrev pub with_place : List ℕ → Option (List ℕ) → Members → Members
 with_place to base members = with_base base (with_text (codes "leads_to") to members)
 
--- the same, if it leads somewhere
+-- a record with the name of a destination, if there is one, and the base of the stack that this is, if it has one
 abbrev pub with_led : Option (List ℕ) → Option (List ℕ) → Members → Members
 with_led None base members = members
 with_led (Some to) base members = with_place to base members
 
--- a record with under what a program runs that is started, if it is
+-- a record with under which profile a program runs, if it is started
 abbrev pub with_started : Option Started → Members → Members
 with_started to members = with_led (destination_text Records to) (destination_base to) members
 
--- a record with where a word leads, and what the stack is on that it leads to; or else with what isn't there, and where its fallback leads
+-- a record with where a word leads, and the base of the stack to which it leads; or else with what doesn't exist, and where its fallback leads
 abbrev pub with_lead : List ℕ → Option (List ℕ) → Option (List ℕ) → Option (List ℕ) → Members → Members
 with_lead lack (Some to) base fallback members = with_place to base members
 with_lead lack None base fallback members = with_fallback fallback (with_text (codes "lacks") lack members)
 
--- the record of a transition, by where its word leads, what that is on, and where its fallback leads
+-- the record of a transition, by where its word leads, the base of that, and where its fallback leads
 abbrev pub transition_record : Transition → Option (List ℕ) → Option (List ℕ) → Option (List ℕ) → Members
 transition_record transition to base fallback =
     with_lead (lack_of transition) to base fallback (with_text (codes "rule") (exec_text (Some transition)) (record_of (codes "transition")))
 
--- the line of a transition, by the same
+-- the line of a transition, by where its word leads, the base of that, and where its fallback leads
 abbrev pub line_of : Form → Transition → Option (List ℕ) → Option (List ℕ) → Option (List ℕ) → List ℕ
 line_of Lines transition to base fallback =
     codes "  " ++ exec_text (Some transition) ++ codes ": " ++ lead_text (lack_of transition) to base fallback ++ line_feed ∷ []

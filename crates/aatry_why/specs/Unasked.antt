@@ -1,4 +1,4 @@
--- What is told in place of rules where none is asked: who asks is in mode unconfined (docs/policy.md, "The mode unconfined").
+-- What is reported in place of rules where none decides: the asker is in mode unconfined (docs/policy.md, "The mode unconfined").
 use Rattle.std.specs.Prelude.{ℕ, List, [], ◌∷◌, ◌++◌, codes}
 use Rattle.serde_json.specs.Data.{Members}
 use Rattle.aa_bytes.specs.Bytes.{line_feed}
@@ -11,11 +11,11 @@ use Rattle.aatry_report.specs.declared.form.Form.TheVariants.{Lines, Records}
 abbrev pub mode_record : Members
 mode_record = with_text (codes "mode") (codes "unconfined") (record_of (codes "mode"))
 
--- its line
+-- the line of the mode
 abbrev pub mode_line : List ℕ
 mode_line = codes "  no rule is asked in mode unconfined" ++ line_feed ∷ []
 
--- that no rule is asked: the line below a heading, or the record
+-- that no rule decides: the line below a heading, or the record
 abbrev pub unasked_lines : Form → List ℕ
 unasked_lines Lines = heading_line Lines (codes "mode") ++ mode_line
 unasked_lines Records = record_line mode_record

@@ -1,4 +1,4 @@
--- What is told of questions to the policy of a folder (docs/aatry.md).
+-- The report on questions to the policy of a folder (docs/aatry.md).
 use Rattle.std.specs.Prelude.{◌≡◌, ℕ, Bool, true, false, List, [], ◌∷◌, ◌++◌, codes, is_ok, Option, None, Some, Result, Ok, Err}
 use Rattle.std.specs.List.{before_first}
 use Rattle.serde_json.specs.Data.{Members}
@@ -42,20 +42,20 @@ use Rattle.aatry_report.specs.Refusals.{with_named_refusal}
 use Rattle.aatry_report.specs.declared.form.Form.{Form}
 use Rattle.aatry_report.specs.declared.form.Form.TheVariants.{Lines, Records}
 
--- how the answer to the start of a program came about, behind the rules that decide; of any other question nothing is told
+-- how the answer to the start of a program came about, after the rules that decide; for any other question nothing
 abbrev pub how_of : Form → List Loaded → Question → List ℕ
 how_of form entries (OfAccess who request) = []
 how_of form entries (OfExec who owned path) = how_lines form entries who owned path
 
--- the line that logs an answer, without its line feed; empty where none does
+-- the line that logs an answer, without its line feed; empty where it isn't logged
 abbrev pub audit_line : Answered → List ℕ
 audit_line told = before_first is_line_feed told.logged
 
--- a record of what a question is answered
+-- a record of the answer to a question
 abbrev pub reply_record : Answered → Members
 reply_record told = with_text (codes "audit") (audit_line told) (with_text (codes "answer") told.text (record_of (codes "answer")))
 
--- what is told of it: the lines of the reply, or the record
+-- the lines of the reply, or the record
 abbrev pub reply_text : Form → Answered → List ℕ
 reply_text Lines told = lines_of told
 reply_text Records told = record_line (reply_record told)
@@ -77,12 +77,12 @@ abbrev pub refused_record : Refusal → Option (List ℕ) → Members
 refused_record refusal meant =
     with_meant meant (with_named_refusal (number_of refusal.refusal) (name_of refusal.refusal) (record_of (codes "refused")))
 
--- what is told of a question that is refused, with the name that may have been meant, if there is one
+-- the refusal of a question, with the name that may have been meant, if there is one
 abbrev pub refused_text : Form → Refusal → Option (List ℕ) → List ℕ
 refused_text Lines refusal meant = codes "refused " ++ refusal_text refusal ++ line_feed ∷ [] ++ meant_line meant
 refused_text Records refusal meant = record_line (refused_record refusal meant)
 
--- no rule allows something that was asked for, or nothing confines who asks
+-- no rule allows some of the request's needs, or nothing confines the asker
 abbrev pub is_lacking : Option Answer → Bool
 is_lacking None = true
 is_lacking (Some Allow) = false
@@ -90,27 +90,27 @@ is_lacking (Some Deny) = false
 is_lacking (Some Refuse) = true
 is_lacking (Some Complain) = true
 
--- the rules behind the answer to who asks, by what confines it: those by which it decides, also where it is disabled;
--- in mode unconfined, that none is asked
+-- the rules that decide the answer to the asker, by what confines it: those by which it decides, also where it is disabled; in mode unconfined, that
+-- none does
 abbrev pub confined_reasons : Form → Sources → Asker → Request → Bool → Confinement → List ℕ
 confined_reasons form sources who request lacking Unconfined = why_lines form (written_by sources who) request lacking
 confined_reasons form sources who request lacking ByName = unasked_lines form
 confined_reasons form sources who request lacking (By section mediation) = why_lines form (written_by sources who) request lacking
 
--- the rules behind the answer to who asks; no one in particular has none
+-- the rules that decide the answer to the asker; no one in particular has none
 abbrev pub reasons : Form → Sources → Option (Option Asker) → Request → Bool → List ℕ
 reasons form sources (Some (Some who)) request lacking = confined_reasons form sources who request lacking (confinement_of who)
 reasons form sources _ request lacking = []
 
--- what is told of what a question is answered: that itself, the rules behind it, and how it came about; or why the question is refused, and where who asks
--- isn't there, which loaded name may have been meant
+-- the answer to a question, the rules that decide it, and how it came about; or why the question is refused, and where the asker doesn't exist,
+-- which loaded name may have been meant
 abbrev pub replied_text : Form → Sources → List Loaded → Question → Result Answered Refusal → List ℕ
 replied_text form sources entries question (Ok told) =
     reply_text form told ++ reasons form sources (asker entries (who_asks question)) (rule_request question) (is_lacking told.answer)
     ++ how_of form entries question
 replied_text form sources entries question (Err refusal) = refused_text form refusal (meant_name entries (who_asks question) refusal.refusal)
 
--- what a policy set answers to a question, with the rules behind it
+-- the answer of a policy set to a question, with the rules that decide it
 abbrev pub answered_text : Form → Sources → List Loaded → Question → List ℕ
 answered_text form sources entries question = replied_text form sources entries question (answered entries question)
 
@@ -118,24 +118,24 @@ answered_text form sources entries question = replied_text form sources entries 
 abbrev pub has_answer : List Loaded → Question → Bool
 has_answer entries question = is_ok (answered entries question)
 
--- where the rules of who asks are written, of a folder
+-- where the rules of the asker are written, of a folder
 abbrev pub sources_in : Folder → Question → Sources
 sources_in folder question = record { below = below folder; origin = asked_origin (origins_in folder) question }
 
--- what the policy set of a folder answers, with the rules behind the answer, and the profiles of files that are left out on which that could hang
+-- the answer of a folder's policy set, with the rules that decide it, and the profiles of files that are left out on which it could depend
 abbrev pub asked_text : Form → Folder → Question → List ℕ
 asked_text form folder question = answered_text form (sources_in folder question) (policy_in folder) question ++ uncertain_in form folder question
 
--- The words ask a question of the policy set of a folder, and a text tells the files that are left out, at length or not, of the line of a log which
--- question that is, what is answered, and on which profiles of files that are left out that could hang.
+-- The words make a question of the policy set of a folder, and a text has the files that are left out, verbose or not, for the line of a log which
+-- question that is, the answer, and the profiles of files that are left out on which it could depend.
 abbrev pub IsWhyTold : Form → Bool → Folder → List (List ℕ) → List ℕ → Bool → Type 0
 IsWhyTold form verbose folder words text found =
     (question : Question) × (asked_by words ≡ Some question)
     × (text ≡ left_out_in form verbose folder ++ asks_of form words question ++ asked_text form folder question)
     × (found ≡ has_answer (policy_in folder) question)
 
--- The question was asked of the files at the top of the folder, with all that lies below it, by a language: the text tells its answer and the rules
--- behind it, and it is noted how many files are left out. It failed where nobody of the name is loaded.
+-- The question was asked of the files at the top of the folder, with all that lies below it, by a language: the text has its answer and the rules
+-- that decide it, and it is noted how many files are left out. It failed where nothing of the name is loaded.
 pub record IsWhyToldBelow (form : Form) (verbose : Bool) (language : Language) (folders : ToldFolders) (known : Known) (base : List ℕ) (words : List (List ℕ)) (report : Report) : Type 0 where
   pub files : List File
   pub unread : List (Option UnreadFault)

@@ -1,4 +1,4 @@
-//! Which question the line of a log was read as.
+//! The question as which the line of a log was read.
 
 ghost use Rattle.std.specs.Prelude.{◌≡◌, ◌++◌, IfOk, OnOk, map, string_bytes};
 ghost use Rattle.aa_set_commands.specs.Question.{seen_question};
@@ -41,7 +41,7 @@ fn push_text(teller: Teller, question: &Question<'_>, out: &mut Vec<u8>) -> Resu
     }
 }
 
-/// Appends the question that words ask to a text, where they are one word, the line of a log: a comment with the words in which `why` takes it, or a
+/// Appends the question of words to a text, where they are one word, the line of a log: a comment with the words in which `why` takes it, or a
 /// record of the kind `request` with these as `question`.
 ///
 /// # Errors

@@ -1,4 +1,4 @@
-//! What is told of those that a path may be attached to.
+//! The report on the candidates that may attach to a path.
 
 ghost use Rattle.std.specs.Prelude.{◌≡◌, ◌++◌, IfOk, OnOk, Some};
 ghost use Rattle.std.specs.Option.{option_map};
@@ -15,7 +15,7 @@ use aa_set_answers::full_name;
 use aatry_report::{Form, Record, Teller, push_heading};
 use std::alloc::{AllocError, Global};
 
-// The words that tell how it comes out.
+// The words for how a candidate ranks.
 fn standing_words(standing: Standing) -> &'static str
     ensures { result.now ≡ standing_words standing }
 {
@@ -50,7 +50,7 @@ fn push_words(
     Ok(())
 }
 
-// Adds the full name of a candidate to a record.
+// Puts the full name of a candidate into a record.
 fn put_name(alloc: Global, candidate: Candidate<'_>, into: &mut Record) -> Result<(), AllocError>
     ensures { OnOk result (seen_record into.new ≡ with_name (seen_candidate candidate.entry) (seen_record into.old)) }
 {
@@ -97,7 +97,7 @@ fn push_line(
     }
 }
 
-// Appends the line of the candidate at a place among those of some ranks.
+// Appends the line of the candidate at an index, by its rank among those of all candidates.
 fn push_candidate(
     teller: Teller,
     path: &[u8],
@@ -113,7 +113,7 @@ fn push_candidate(
     push_line(teller, standing, candidate, pattern, out)
 }
 
-// Appends the lines of candidates of these ranks.
+// Appends the lines of candidates, by their ranks.
 fn push_candidates(
     teller: Teller,
     path: &[u8],
@@ -144,8 +144,8 @@ fn push_headed(form: Form, words: &str, lines: &[u8], out: &mut Vec<u8>) -> Resu
     out.extend_from_slice(lines)
 }
 
-/// Appends a line for each candidate that has a pattern which matches a path, below the word `attachment`: `attached:`, `equally near:`
-/// where it fits the path best and so does another, or `not attached:`, with its full name and the pattern that fits best. As records, of the kind
+/// Appends a line for each candidate that has a pattern which matches a path, below the word `attachment`: `attached:`, `equally near:` where it
+/// fits the path best and so does another, or `not attached:`, with its full name and the pattern that fits best. As records, of the kind
 /// `attachment`, these are `standing`, `name` and `pattern` of each, as they are, with no word above. Nothing where there is none.
 ///
 /// # Errors

@@ -1,4 +1,4 @@
-//! How it is told under what a program runs.
+//! How destinations of starts are printed.
 
 ghost use Rattle.std.specs.Prelude.{◌≡◌, IfOk, Some, option_and_then};
 ghost use Rattle.std.specs.Option.{option_copied, option_map};
@@ -16,7 +16,7 @@ use aa_set_answers::{full_name, stack_name};
 use aatry_report::{Form, Teller};
 use std::alloc::{AllocError, Global};
 
-// A name, as a line writes names, or as it is.
+// A name, quoted as in lines, or as it is.
 fn written(teller: Teller, name: Vec<u8>) -> Result<Vec<u8>, AllocError>
     ensures { IfOk result (λ text. text.items ≡ name_text teller.form name.items) }
 {
@@ -30,14 +30,14 @@ fn written(teller: Teller, name: Vec<u8>) -> Result<Vec<u8>, AllocError>
     }
 }
 
-// The full name of a profile, or of its child or hat at a place, as a line writes names, or as it is.
+// The full name of a profile, or of its child or hat at an index, quoted as in lines, or as it is.
 fn name_text(teller: Teller, profile: &Profile, child: Option<usize>) -> Result<Vec<u8>, AllocError>
     ensures { IfOk result (λ text. text.items ≡ name_text teller.form (full_name_at profile.now child)) }
 {
     written(teller, full_name(teller.alloc, profile, child)?)
 }
 
-// The name of what a stack is on; nothing where the slot of that is empty.
+// The name of the base of a stack; `None` where its slot is empty.
 fn base_name(
     alloc: Global,
     slots: &IndexedSlots<'_>,
@@ -54,14 +54,14 @@ fn base_name(
     }
 }
 
-// The name of a stack of these members, on what has this name, if it is on something, as a line writes names, or as it is.
+// The name of a stack of these members, on a base of this name, if it has one, quoted as in lines, or as it is.
 fn stacked_text(teller: Teller, base: Option<&[u8]>, members: &[u8]) -> Result<Vec<u8>, AllocError>
     ensures { IfOk result (λ text. text.items ≡ stacked_text teller.form (option_copied base.entry) (parts_of members.now)) }
 {
     written(teller, stack_name(teller.alloc, base, members)?)
 }
 
-// The same of a stack that is on something; nothing where the slot of that is empty.
+// The name of a stack that is on a base; `None` where the slot of that is empty.
 fn based_text(
     teller: Teller,
     slots: &IndexedSlots<'_>,
@@ -77,7 +77,7 @@ fn based_text(
     }
 }
 
-// Under what a program runs that is started; nothing where the slot is empty.
+// Under what a program runs that is started; `None` where the slot is empty.
 fn started_text(
     teller: Teller,
     slots: &IndexedSlots<'_>,
@@ -100,8 +100,8 @@ fn started_text(
     }
 }
 
-/// How it is told what a transition leads to, if it leads somewhere: the full name, as a line writes names or as it is, or the word where that is no
-/// profile.
+/// The destination of a transition as it is printed, if it leads somewhere: the full name, quoted as in lines or as it is, or the word where that is
+/// no profile.
 ///
 /// # Errors
 ///
@@ -119,7 +119,7 @@ pub fn destination_text(
     }
 }
 
-// The name of what it is on, if a program runs under a stack that is on something; nothing where the slot of that is empty.
+// The name of the base, if a program runs under a stack that is on one; `None` where the slot of that is empty.
 fn stack_base(
     alloc: Global,
     slots: &IndexedSlots<'_>,
@@ -139,7 +139,7 @@ fn stack_base(
     }
 }
 
-/// The name of what the stack is on that a transition leads to, if it leads to one that is on something: the full name of a profile, child or hat, or
+/// The name of the base of the stack to which a transition leads, if it leads to one that is on a base: the full name of a profile, child or hat, or
 /// `unconfined`.
 ///
 /// # Errors

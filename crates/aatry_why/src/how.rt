@@ -1,4 +1,4 @@
-//! What is told of how the answer to the start of a program came about, behind the rules that decide.
+//! The report on how the answer to the start of a program came about, after the rules that decide.
 
 ghost use Rattle.std.specs.Prelude.{◌≡◌, ◌++◌, IfOk, IfSome, OnOk};
 ghost use Rattle.std.specs.Option.{option_map};
@@ -20,7 +20,7 @@ use aa_set_answers::find_asker;
 use aatry_report::{Form, Record, Teller, push_heading};
 use std::alloc::{AllocError, Global};
 
-// The children and hats of who asks.
+// The children and hats of the asker.
 fn own_children<'a>(alloc: Global, asker: Asker<'a>) -> Result<Vec<Candidate<'a>>, AllocError>
     ensures { IfOk result (λ candidates. seen_candidates candidates.items ≡ own_children (seen_asker asker.entry)) }
 {
@@ -30,7 +30,7 @@ fn own_children<'a>(alloc: Global, asker: Asker<'a>) -> Result<Vec<Candidate<'a>
     }
 }
 
-// Those among which the path's attachment decides where a destination leads.
+// The candidates among which attachment to the path decides where a destination leads.
 fn asked_candidates<'a>(
     alloc: Global,
     slots: &IndexedSlots<'a>,
@@ -51,7 +51,7 @@ fn asked_candidates<'a>(
     }
 }
 
-// The record of an attachment that there isn't.
+// The record that says that nothing attaches.
 fn none_record(alloc: Global) -> Result<Record, AllocError>
     ensures { IfOk result (λ made. seen_record made ≡ none_record) }
 {
@@ -60,7 +60,7 @@ fn none_record(alloc: Global) -> Result<Record, AllocError>
     Ok(made)
 }
 
-// Appends the line of an attachment that there isn't.
+// Appends the line that says that nothing attaches.
 fn push_none_line(out: &mut Vec<u8>) -> Result<(), AllocError>
     ensures { OnOk result (out.new.items ≡ out.old.items ++ none_line) }
 {
@@ -82,7 +82,7 @@ fn push_none_attached(teller: Teller, out: &mut Vec<u8>) -> Result<(), AllocErro
     }
 }
 
-// Appends lines, or that there is none to be attached to.
+// Appends lines, or that nothing attaches where there are none.
 fn push_lines_or_none(teller: Teller, lines: &[u8], out: &mut Vec<u8>) -> Result<(), AllocError>
     ensures { OnOk result (out.new.items ≡ out.old.items ++ lines_or_none teller.form lines.now) }
 {
@@ -92,7 +92,7 @@ fn push_lines_or_none(teller: Teller, lines: &[u8], out: &mut Vec<u8>) -> Result
     out.extend_from_slice(lines)
 }
 
-// Appends the lines of the profiles that the path may be attached to.
+// Appends the lines of the profiles that may attach to the path.
 fn push_profiles(
     teller: Teller,
     slots: &IndexedSlots<'_>,
@@ -107,7 +107,7 @@ fn push_profiles(
     push_lines_or_none(teller, &lines, out)
 }
 
-// Appends the lines of where the rules lead, if they lead somewhere, and of the attachment, where it decides where that is.
+// Appends the lines of where the rules lead, if they lead somewhere, and of the attachment, where that decides.
 fn push_led(
     teller: Teller,
     slots: &IndexedSlots<'_>,
@@ -129,7 +129,7 @@ fn push_led(
     push_attachment(teller, path, &candidates, out)
 }
 
-// Appends the lines for who asks by a loaded profile.
+// Appends the lines for the asker of a loaded profile.
 fn push_asked_by(
     teller: Teller,
     slots: &IndexedSlots<'_>,
@@ -151,7 +151,7 @@ fn push_asked_by(
     }
 }
 
-// Appends them for who asks, or for no one in particular.
+// Appends the lines for the asker, or for no one in particular.
 fn push_asked(
     teller: Teller,
     slots: &IndexedSlots<'_>,
@@ -170,13 +170,11 @@ fn push_asked(
     }
 }
 
-/// Appends lines that tell how the answer came about to who asks to start the program of a path, by a full name or as
-/// the word `unconfined`: below `transition` where the rules lead, and below `attachment` which profiles or children
-/// the path may be attached to, where that decides; or, as the form says, a record of each, of the kinds `transition`
-/// and `attachment`. Where nothing confines who asks, or a name alone, and no profile in force has a pattern that
-/// matches, `attachment` says so: the standing is `none` then. Where no rule leads, or one denies, and where no one of
-/// the name is loaded, nothing is appended. `owned` says whether the task's user owns the file. What is told is said of
-/// the filled slots in their order.
+/// Appends how the answer came about to the asker, by a full name or as the word `unconfined`, that starts the program of a path: below `transition`
+/// where the rules lead, and below `attachment` which profiles or children may attach to the path, where that decides; or, in records, a record of
+/// each, of the kinds `transition` and `attachment`. Where nothing confines the asker, or a name alone, and no profile in force has a pattern that
+/// matches, `attachment` says so: the standing is `none` then. Where no rule leads, or one denies, and where nothing of the name is loaded, nothing
+/// is appended. `owned` says whether the task's user owns the file. The filled slots count in their order.
 ///
 /// # Errors
 ///

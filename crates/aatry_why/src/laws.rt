@@ -1,4 +1,4 @@
-//! What holds of the rules that `why` tells, as a law over the definitions that the calls are proved to follow.
+//! What holds of the rules that `why` prints, as a law over the definitions that the calls are proved to follow.
 
 ghost use Rattle.std.specs.Prelude.{◌≡◌, Some};
 ghost use Rattle.aa_decide.specs.Exec.{Asker};
@@ -12,9 +12,8 @@ ghost use Rattle.aatry_why.specs.Why.{sources_in};
 
 use aatry_policy::{where_loaded_profiles_are_read, where_loaded_rules_are_written};
 
-/// The rules that `why` tells of who asks are those by which the loaded profile, child or hat of its name decides, with
-/// its flag that audits them, and each is written where it is told to be: in the file that spells the loaded profile,
-/// in the block of who asks, at the place beside it.
+/// The rules that `why` prints for an asker are those by which the loaded profile, child or hat of its name decides, with its flag that audits them,
+/// and each is written where it is reported to be: in the file of the loaded profile, in the block of the asker, at the place beside it.
 pub fn which_rules_why_tells()
     ensures { (folder : Folder) (question : Question) (who : Asker)
         → asker (policy_in folder) (who_asks question) ≡ Some (Some who)

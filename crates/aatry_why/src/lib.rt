@@ -1,5 +1,5 @@
-//! The command `why`: what the policy of a folder answers to a question, with the rules behind the answer; and of the
-//! start of a program where the rules lead, and what its path may be attached to.
+//! The command `why`: the answer of a folder's policy to a question, with the rules that decide it; and for the start of a program where the rules
+//! lead, and which profiles may attach to its path.
 #![tactic(auto)]
 
 mod asks;

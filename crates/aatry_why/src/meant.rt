@@ -1,4 +1,4 @@
-//! The loaded name that may have been meant, where nobody of a name is loaded.
+//! The loaded name that may have been meant, where nothing of a name is loaded.
 
 ghost use Rattle.std.specs.Prelude.{◌≡◌, ◌++◌, IfOk, OnOk, map};
 ghost use Rattle.aatry_words.specs.Paths.{near_path};
@@ -12,7 +12,7 @@ use aatry_policy::{Part, parts_of};
 use aatry_words::near_path;
 use std::alloc::{AllocError, Global};
 
-// Puts the full names of parts behind others, none of them copied.
+// Appends the full names of parts to `names`, none of them copied.
 fn push_names<'p>(parts: &'p [Part<'_>], names: &mut Vec<&'p [u8]>) -> Result<(), AllocError>
     ensures { OnOk result (map (λ name. name.now) names.new.items
         ≡ map (λ name. name.now) names.old.items ++ names_of (map seen_part parts.now)) }
@@ -41,7 +41,7 @@ fn near_part(
     }
 }
 
-// The loaded name that is near the name of who asks, if one is.
+// The loaded name that is near the asker's name, if one is.
 fn near_name(
     alloc: Global,
     manager: &Manager,
@@ -54,8 +54,8 @@ fn near_name(
     near_part(alloc, &parts, who)
 }
 
-/// The loaded name that may have been meant by the name of who asks, where a question is refused since nobody of the name is loaded: the first full name
-/// that ends with it behind a slash, and else the nearest, if one is near.
+/// The loaded name that may have been meant by the asker's name, where a question is refused since nothing of the name is loaded: the first full
+/// name that ends with it after a slash, and else the nearest, if one is near.
 ///
 /// # Errors
 ///

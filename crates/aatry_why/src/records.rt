@@ -1,4 +1,4 @@
-//! The records of transitions, and what other records tell of where programs are started.
+//! The records of transitions, and the members of other records on where programs are started.
 
 ghost use Rattle.std.specs.Prelude.{◌≡◌, IfOk, OnOk, Some, codes};
 ghost use Rattle.std.specs.Option.{option_copied};
@@ -16,7 +16,7 @@ use aa_set_answers::push_exec_transition;
 use aatry_report::{Form, Record, Teller};
 use std::alloc::{AllocError, Global};
 
-// Adds to a record where a fallback leads, if it leads somewhere.
+// Puts where a fallback leads into a record, if it leads somewhere.
 fn put_fallback(alloc: Global, fallback: Option<&[u8]>, into: &mut Record) -> Result<(), AllocError>
     ensures { OnOk result (seen_record into.new ≡ with_fallback (option_copied fallback.entry) (seen_record into.old)) }
 {
@@ -26,7 +26,7 @@ fn put_fallback(alloc: Global, fallback: Option<&[u8]>, into: &mut Record) -> Re
     }
 }
 
-// Adds to a record what a stack is on, if it is on something.
+// Puts the base of a stack into a record, if it has one.
 fn put_base(alloc: Global, base: Option<&[u8]>, into: &mut Record) -> Result<(), AllocError>
     ensures { OnOk result (seen_record into.new ≡ with_base (option_copied base.entry) (seen_record into.old)) }
 {
@@ -36,7 +36,7 @@ fn put_base(alloc: Global, base: Option<&[u8]>, into: &mut Record) -> Result<(),
     }
 }
 
-// Adds to a record the name of what something leads to, and what the stack is on that this is, if it is on something.
+// Puts the name of a destination into a record, and the base of the stack that this is, if it has one.
 fn put_place(
     alloc: Global,
     to: &[u8],
@@ -49,7 +49,7 @@ fn put_place(
     put_base(alloc, base, into)
 }
 
-// The same, if it leads somewhere.
+// Puts the name of a destination into a record, if there is one, and the base of the stack that this is, if it has one.
 fn put_led(
     alloc: Global,
     to: Option<&[u8]>,
@@ -64,12 +64,12 @@ fn put_led(
     }
 }
 
-/// Adds to a record under what a program runs that is started, if it is: the full name, as `leads_to`, and what the stack is on that this is, as `on`, if
-/// it is on something; `unconfined` is the name of no profile.
+/// Puts under which profile a program runs into a record, if it is started: the full name, as `leads_to`, and the base of the stack that this is, as
+/// `on`, if it has one; `unconfined` is the name of no profile.
 ///
 /// # Errors
 ///
-/// Where memory runs out. The first member may have been added then.
+/// Where memory runs out. The first member may have been put then.
 pub fn put_started(
     alloc: Global,
     slots: &IndexedSlots<'_>,
@@ -88,7 +88,7 @@ pub fn put_started(
     put_led(alloc, name.as_deref(), base.as_deref(), into)
 }
 
-// Adds to a record what isn't there that a transition's word leads to.
+// Puts what a transition's word leads to and doesn't exist into a record.
 fn put_lack(alloc: Global, transition: &Transition, into: &mut Record) -> Result<(), AllocError>
     ensures { OnOk result (seen_record into.new ≡ with_text (codes "lacks") (lack_of transition.now) (seen_record into.old)) }
 {
@@ -97,7 +97,7 @@ fn put_lack(alloc: Global, transition: &Transition, into: &mut Record) -> Result
     into.put_text(alloc, "lacks", &lack)
 }
 
-// Adds to a record where a transition leads.
+// Puts where a transition leads into a record.
 fn put_lead(
     alloc: Global,
     transition: &Transition,
@@ -118,7 +118,7 @@ fn put_lead(
     }
 }
 
-// Adds to a record a transition as a rule writes it.
+// Puts a transition as a rule writes it into a record.
 fn put_exec(alloc: Global, transition: &Transition, into: &mut Record) -> Result<(), AllocError>
     ensures { OnOk result (seen_record into.new ≡ with_text (codes "rule") (exec_text (Some transition.now)) (seen_record into.old)) }
 {
@@ -127,7 +127,7 @@ fn put_exec(alloc: Global, transition: &Transition, into: &mut Record) -> Result
     into.put_text(alloc, "rule", &rule)
 }
 
-/// The record of a transition, by where its word leads, what the stack is on that it leads to, and where its fallback leads.
+/// The record of a transition, by where its word leads, the base of the stack to which it leads, and where its fallback leads.
 ///
 /// # Errors
 ///

@@ -1,4 +1,4 @@
-//! What is told of replies to questions.
+//! Replies to questions, as they are reported.
 
 ghost use Rattle.std.specs.Prelude.{◌≡◌, ◌++◌, IfOk, OnOk};
 ghost use Rattle.aa_set_answers.specs.Answers.{lines_of};
@@ -14,7 +14,7 @@ use aatry_policy::push_refusal;
 use aatry_report::{Form, Record, Teller, put_named_refusal};
 use std::alloc::{AllocError, Global};
 
-/// Whether no rule allows something that was asked for, or nothing confines who asks.
+/// Whether no rule allows some of the request's needs, or nothing confines the asker.
 pub fn is_lacking(answer: Option<Answer>) -> bool
     ensures { result ≡ is_lacking answer }
 {
@@ -25,7 +25,7 @@ pub fn is_lacking(answer: Option<Answer>) -> bool
     }
 }
 
-// The line that logs an answer, without its line feed; empty where none does.
+// The line that logs an answer, without its line feed; empty where it isn't logged.
 fn audit_line(told: &Answered) -> &[u8]
     ensures { result.now ≡ audit_line told.now }
 {
@@ -33,7 +33,7 @@ fn audit_line(told: &Answered) -> &[u8]
     &logged[..length_while(logged, |byte| byte != b'\n')]
 }
 
-// The record of what a question is answered.
+// The record of the answer to a question.
 fn reply_record(alloc: Global, told: &Answered) -> Result<Record, AllocError>
     ensures { IfOk result (λ made. seen_record made ≡ reply_record told.now) }
 {
@@ -43,7 +43,7 @@ fn reply_record(alloc: Global, told: &Answered) -> Result<Record, AllocError>
     Ok(made)
 }
 
-// Appends the lines of what a question is answered to a text.
+// Appends the lines of the answer to a question to a text.
 fn push_lines(told: &Answered, out: &mut Vec<u8>) -> Result<(), AllocError>
     ensures { OnOk result (out.new.items ≡ out.old.items ++ lines_of told.now) }
 {
@@ -52,7 +52,7 @@ fn push_lines(told: &Answered, out: &mut Vec<u8>) -> Result<(), AllocError>
     out.extend_from_slice(told.logged.as_slice())
 }
 
-/// Appends what a question is answered to a text: the lines of the reply, or a record of the answer and the line that logs it.
+/// Appends the answer to a question to a text: the lines of the reply, or a record of the answer and the line that logs it.
 ///
 /// # Errors
 ///
@@ -77,7 +77,7 @@ fn push_name_line(out: &mut Vec<u8>, name: &[u8]) -> Result<(), AllocError>
     Ok(())
 }
 
-// The same, if there is one.
+// Appends the line of a name that may have been meant to a text, if there is one.
 fn push_meant_line(out: &mut Vec<u8>, meant: &Option<Sequence<u8>>) -> Result<(), AllocError>
     ensures { OnOk result (out.new.items ≡ out.old.items ++ meant_line meant.now) }
 {
@@ -129,7 +129,7 @@ fn refused_record(
     Ok(made)
 }
 
-/// Appends what is told of a question that is refused to a text, with the name that may have been meant, if there is one.
+/// Appends the refusal of a question to a text, with the name that may have been meant, if there is one.
 ///
 /// # Errors
 ///

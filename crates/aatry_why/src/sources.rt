@@ -1,4 +1,4 @@
-//! Where the rules of who asks are written.
+//! Where the rules of the asker are written.
 
 ghost use Rattle.std.specs.Prelude.{◌≡◌, option_map};
 ghost use Rattle.aa_decide.specs.SeenExec.{seen_asker};
@@ -15,16 +15,16 @@ use aatry_policy::{Origin, file_of, origin_in, rule_places};
 use aatry_requests::who_asks;
 use aatry_why_lines::WrittenRules;
 
-/// Where the rules of who asks are written.
+/// Where the rules of the asker are written.
 #[derive(Clone, Copy)]
 pub struct Sources<'a> {
     /// What lies below the folder of policy.
     pub below: PolicyFiles<'a>,
-    /// Where the profile of who asks was read, if that is known.
+    /// Where the profile of the asker was read, if that is known.
     pub origin: Option<&'a Origin>,
 }
 
-/// Where the profile of who asks was read, among some origins, if it is there. It takes no memory.
+/// Where the profile of the asker was read, among some origins, if it is there. It takes no memory.
 pub fn asked_origin<'a>(origins: &'a [Origin], question: &Question<'_>) -> Option<&'a Origin>
     ensures { option_map (λ origin. origin.now) result ≡ asked_origin origins.now (seen_question question.entry.now) }
 {
@@ -32,7 +32,7 @@ pub fn asked_origin<'a>(origins: &'a [Origin], question: &Question<'_>) -> Optio
     origin_in(origins, profile)
 }
 
-/// The rules of who asks, with where they are written.
+/// The rules of the asker, with where they are written.
 pub fn written_by<'a>(sources: &Sources<'a>, asker: Asker<'a>) -> WrittenRules<'a>
     ensures { seen_rules result ≡ written_by (seen_sources sources.now) (seen_asker asker.entry) }
 {

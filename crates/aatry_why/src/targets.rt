@@ -1,4 +1,4 @@
-//! What an answer could hang on of files that are left out, by the names that the target of a start names.
+//! The files that are left out on which an answer could depend, by the names in the target of a start.
 
 ghost use Rattle.std.specs.Prelude.{◌≡◌, ◌++◌, OnOk, Some};
 ghost use Rattle.aa_decide_ready.specs.Slots.{filled};
@@ -13,7 +13,7 @@ use aatry_report::Teller;
 use aatry_uncertain::{LeftOutHeads, push_unsure_names};
 use std::alloc::AllocError;
 
-// Appends what is told of the profiles that are left out and have a full name to a text, where nobody of it is loaded.
+// Appends the profiles that are left out and have a full name to a text, where nothing of it is loaded.
 fn push_name(
     teller: Teller,
     slots: &IndexedSlots<'_>,
@@ -30,7 +30,7 @@ fn push_name(
     }
 }
 
-// The same of each of the full names in a text, with `//&` between them.
+// Appends the profiles that are left out and have one of the full names in a text, with `//&` between them, where nothing of it is loaded.
 fn push_members(
     teller: Teller,
     slots: &IndexedSlots<'_>,
@@ -52,7 +52,7 @@ fn push_members(
     }
 }
 
-// The same of a name that is no stack, by where its word leads.
+// Appends the profiles that are left out and have a name that is no stack to a text, by where its word leads.
 fn push_alone(
     teller: Teller,
     slots: &IndexedSlots<'_>,
@@ -70,7 +70,7 @@ fn push_alone(
     }
 }
 
-// The same of a name or a stack.
+// Appends the profiles that are left out and have a name, or one of those in a stack, to a text.
 fn push_named(
     teller: Teller,
     slots: &IndexedSlots<'_>,
@@ -88,9 +88,9 @@ fn push_named(
     }
 }
 
-/// Appends what is told of profiles that are left out to a text, on which it hangs where a word leads to a target: those that have one of the full names which
-/// the target names, where nobody of that name is loaded. A word that leads to a child or a hat names one of who asks, which stands in the same file,
-/// but for the members of a stack.
+/// Appends the profiles that are left out on which the answer depends where a word leads to a target to a text: those that have one of the full
+/// names in the target, where nothing of that name is loaded. A word that leads to a child or a hat names one of the asker's, which is in the same
+/// file, except for the members of a stack.
 ///
 /// # Errors
 ///

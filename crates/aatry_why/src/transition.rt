@@ -1,4 +1,4 @@
-//! What is told of where a transition leads.
+//! The report on where a transition leads.
 
 ghost use Rattle.std.specs.Prelude.{◌≡◌, ◌++◌, IfOk, OnOk, Some};
 ghost use Rattle.std.specs.Option.{option_copied};
@@ -17,7 +17,7 @@ use aa_set_answers::push_exec_transition;
 use aatry_report::{Form, Teller, push_heading};
 use std::alloc::{AllocError, Global};
 
-// Appends that something of this name isn't there, in these words.
+// Appends that something of this name doesn't exist, in these words.
 fn push_missing(name: &[u8], words: &[u8], out: &mut Vec<u8>) -> Result<(), AllocError>
     ensures { OnOk result (out.new.items ≡ out.old.items ++ written_text name.now ++ words.now) }
 {
@@ -25,7 +25,7 @@ fn push_missing(name: &[u8], words: &[u8], out: &mut Vec<u8>) -> Result<(), Allo
     out.extend_from_slice(words)
 }
 
-// Appends that a name isn't there.
+// Appends that a name doesn't exist.
 fn push_name_lack(
     name: &[u8],
     destination: Destination,
@@ -41,7 +41,7 @@ fn push_name_lack(
     }
 }
 
-// Appends that nothing is attached.
+// Appends that nothing attaches.
 fn push_attachment_lack(destination: Destination, out: &mut Vec<u8>) -> Result<(), AllocError>
     ensures { OnOk result (out.new.items ≡ out.old.items ++ attachment_lack destination) }
 {
@@ -53,7 +53,7 @@ fn push_attachment_lack(destination: Destination, out: &mut Vec<u8>) -> Result<(
     }
 }
 
-// Appends what isn't there, where a destination leads nowhere.
+// Appends what doesn't exist, where a destination leads nowhere.
 pub fn push_lack(
     target: &Option<SharedBytes>,
     destination: Destination,
@@ -84,7 +84,7 @@ fn push_fallback(fallback: Option<&[u8]>, out: &mut Vec<u8>) -> Result<(), Alloc
     }
 }
 
-// Appends what a stack is on, if it is on something.
+// Appends the base of a stack, if it has one.
 fn push_on(base: Option<&[u8]>, out: &mut Vec<u8>) -> Result<(), AllocError>
     ensures { OnOk result (out.new.items ≡ out.old.items ++ on_text (option_copied base.entry)) }
 {
@@ -161,11 +161,10 @@ fn push_line(
     }
 }
 
-/// Appends a line that tells where the rules lead who asks to start the program of a path, below the word `transition`:
-/// by its word, and what the stack is on that this leads to, if it is on something; or what isn't there that this would
-/// lead to, and where its fallback leads. As a record, of the kind `transition`, this is the transition as a rule
-/// writes it, `rule`, and the full name `leads_to`, with the name of what a stack is on, `on`; or `lacks`, and the full
-/// name `falls_back_to`, if the fallback leads somewhere.
+/// Appends where the rules lead the asker that starts the program of a path, below the word `transition`: by its word, and the base of the stack to
+/// which this leads, if it has one; or what doesn't exist to which this would lead, and where its fallback leads. As a record, of the kind
+/// `transition`, this is the transition as a rule writes it, `rule`, and the full name `leads_to`, with the name of a stack's base, `on`; or
+/// `lacks`, and the full name `falls_back_to`, if the fallback leads somewhere.
 ///
 /// # Errors
 ///

@@ -1,4 +1,4 @@
-//! What is told in place of rules where none is asked.
+//! What is reported in place of rules where none decides.
 
 ghost use Rattle.std.specs.Prelude.{◌≡◌, ◌++◌, IfOk, OnOk};
 ghost use Rattle.aatry_report.specs.SeenRecord.{seen_record};
@@ -16,7 +16,7 @@ fn mode_record(alloc: Global) -> Result<Record, AllocError>
     Ok(made)
 }
 
-// Appends its line.
+// Appends the line of the mode.
 fn push_mode_line(out: &mut Vec<u8>) -> Result<(), AllocError>
     ensures { OnOk result (out.new.items ≡ out.old.items ++ mode_line) }
 {
@@ -25,8 +25,8 @@ fn push_mode_line(out: &mut Vec<u8>) -> Result<(), AllocError>
     Ok(())
 }
 
-/// Appends that no rule is asked, since who asks is in mode unconfined: a line below the word `mode`; or, as the form
-/// says, a record of the kind `mode`, with the member `mode`.
+/// Appends that no rule decides, since the asker is in mode unconfined: a line below the word `mode`; or, in records, a record of the kind `mode`,
+/// with the member `mode`.
 ///
 /// # Errors
 ///

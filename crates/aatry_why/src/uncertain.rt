@@ -1,4 +1,4 @@
-//! What an answer could hang on of files that are left out.
+//! The files that are left out on which an answer could depend.
 
 ghost use Rattle.std.specs.Prelude.{◌≡◌, ◌++◌, IfSome, OnOk};
 ghost use Rattle.std.specs.Option.{option_map};
@@ -23,7 +23,7 @@ use aatry_requests::who_asks;
 use aatry_uncertain::{LeftOutHeads, push_unsure_names, push_unsure_starts};
 use std::alloc::AllocError;
 
-// Whether a profile comes to a target by what the path is attached to.
+// Whether a target leaves it to attachment to the path which profile a program runs under.
 fn is_open_target(target: &Option<SharedBytes>) -> bool
     ensures { result ≡ is_open_target target.now }
 {
@@ -33,7 +33,7 @@ fn is_open_target(target: &Option<SharedBytes>) -> bool
     }
 }
 
-// Whether a profile is looked for to which the path is attached.
+// Whether a profile is looked for that attaches to the path.
 fn asks_profiles(target: &Option<SharedBytes>, destination: Destination) -> bool
     ensures { result ≡ asks_profiles target.now destination }
 {
@@ -43,7 +43,7 @@ fn asks_profiles(target: &Option<SharedBytes>, destination: Destination) -> bool
     }
 }
 
-// Appends what is told of profiles that are left out to a text, to which a path may be attached, where such a profile is looked for.
+// Appends the profiles that are left out and may attach to a path to a text, where such a profile is looked for.
 fn push_attached(
     teller: Teller,
     left_out: &LeftOutHeads<'_>,
@@ -60,7 +60,7 @@ fn push_attached(
     push_unsure_starts(teller, left_out, path, out)
 }
 
-// Appends what is told of those to a text on which it hangs where the rules lead, if they lead somewhere.
+// Appends the profiles that are left out on which it depends where the rules lead to a text, if they lead somewhere.
 fn push_lead(
     teller: Teller,
     slots: &IndexedSlots<'_>,
@@ -87,7 +87,7 @@ fn push_lead(
     push_targets(teller, slots, left_out, target, destination, out)
 }
 
-// The same by what confines who starts the program.
+// Appends the profiles that are left out on which the start of a program depends to a text, by what confines the asker.
 fn push_confined(
     teller: Teller,
     slots: &IndexedSlots<'_>,
@@ -112,7 +112,7 @@ fn push_confined(
     }
 }
 
-// The same by who starts it.
+// Appends the profiles that are left out on which the start of a program depends to a text, by the asker.
 fn push_exec(
     teller: Teller,
     slots: &IndexedSlots<'_>,
@@ -132,7 +132,8 @@ fn push_exec(
     }
 }
 
-// The same of a question by who asks it; of any other than for the start of a program, nothing.
+// Appends the profiles that are left out on which the answer to a question depends to a text, by its asker; for any question other than for the
+// start of a program, nothing.
 fn push_start(
     teller: Teller,
     slots: &IndexedSlots<'_>,
@@ -153,9 +154,10 @@ fn push_start(
     }
 }
 
-/// Appends what is told of profiles of files that are left out to a text, on which the answer of a policy set to a question could hang, as far as their
-/// heads can be read. Where it is asked for the start of a program: those to which the path may be attached, where under what that runs hangs on it, and
-/// those that have a name which the target names, where nobody of it is loaded. And where nobody of the name is loaded who asks, those of the name.
+/// Appends the profiles of files that are left out on which the answer of a policy set to a question could depend to a text, as far as their heads
+/// can be read. Where it is a question for the start of a program: those that may attach to the path, where the profile that the program runs under
+/// depends on it, and those that have a name in the target, where nothing of it is loaded. And where nothing of the asker's name is loaded, those of
+/// the name.
 ///
 /// # Errors
 ///

@@ -1,4 +1,4 @@
-//! Questions to the policy of a folder, answered with the rules behind the answer.
+//! Questions to the policy of a folder, answered with the rules that decide the answer.
 
 ghost use Rattle.std.specs.Prelude.{◌≡◌, ◌++◌, ◌⊎◌, Bool, Ok, IfErr, IfOk, OnOk, map, string_bytes};
 ghost use Rattle.aa_decide.specs.SeenExec.{seen_asker};
@@ -43,7 +43,7 @@ use aatry_uncertain::{LeftOutHeads, heads_left_out};
 use aatry_why_lines::push_why;
 use std::alloc::{AllocError, Global};
 
-// Appends how the answer to the start of a program came about to a text; of any other question, nothing.
+// Appends how the answer to the start of a program came about to a text; for any other question, nothing.
 fn push_how_of(
     teller: Teller,
     manager: &Manager,
@@ -67,7 +67,7 @@ fn push_how_of(
     }
 }
 
-// Appends the rules behind the answer to who asks by a loaded profile to a text; where it is in mode unconfined, that none is asked.
+// Appends the rules that decide the answer to the asker of a loaded profile to a text; where it is in mode unconfined, that none does.
 fn push_confined_reasons(
     teller: Teller,
     sources: &Sources<'_>,
@@ -89,7 +89,7 @@ fn push_confined_reasons(
     }
 }
 
-// Appends the rules behind the answer to who asks to a text; where it is no one in particular, or isn't there, nothing.
+// Appends the rules that decide the answer to the asker to a text; where it is no one in particular, or doesn't exist, nothing.
 fn push_reasons(
     teller: Teller,
     sources: &Sources<'_>,
@@ -115,7 +115,7 @@ fn push_reasons(
     }
 }
 
-// Appends what a question is answered to a text, the rules behind that, and how it came about.
+// Appends the answer to a question to a text, the rules that decide it, and how it came about.
 fn push_replied(
     teller: Teller,
     sources: &Sources<'_>,
@@ -139,7 +139,7 @@ fn push_replied(
     push_how_of(teller, manager, question, out)
 }
 
-// Appends why a question is refused to a text, and which loaded name may have been meant, where who asks isn't there.
+// Appends why a question is refused to a text, and which loaded name may have been meant, where the asker doesn't exist.
 fn push_unanswered(
     teller: Teller,
     manager: &Manager,
@@ -154,10 +154,9 @@ fn push_unanswered(
     push_refused(teller, refusal, &meant, out)
 }
 
-/// Appends the answer of a policy set to a question to a text, and behind it the rules by which who asks decides, as
-/// `why` tells them: those of the loaded profile, child or hat, with where they are written; or that no rule is asked,
-/// where it is in mode unconfined. Says whether there is an answer. The caller sees to it that the question is
-/// well-formed, as one of `Question::read` is.
+/// Appends the answer of a policy set to a question to a text, followed by the rules by which the asker decides, as `why` prints them: those of the
+/// loaded profile, child or hat, with where they are written; or that no rule decides, where it is in mode unconfined. Returns whether there is an
+/// answer. The question has to be well-formed, like one of `Question::read`.
 ///
 /// # Errors
 ///
@@ -189,8 +188,8 @@ pub fn push_answer(
     }
 }
 
-// Appends the answer of the policy of a loaded folder to a question to a text, with the rules behind it, and says whether there is an answer. What the
-// policy remembers of the question changes nothing of it.
+// Appends the answer of the policy of a loaded folder to a question to a text, with the rules that decide it, and returns whether there is an
+// answer. What the policy remembers of the question doesn't change its answers.
 fn push_own(
     teller: Teller,
     loaded: &mut LoadedFolder<'_>,
@@ -216,9 +215,9 @@ fn push_own(
     push_answer(teller, &sources, &loaded.policy.manager, question, out)
 }
 
-/// Appends the answer of the policy of a loaded folder to a question to a text, with the rules behind it, and behind these the profiles of its files that
-/// are left out on which that could hang, as `why` tells them; and says whether there is an answer. What the policy remembers of the question changes
-/// nothing of it.
+/// Appends the answer of the policy of a loaded folder to a question to a text, with the rules that decide it, followed by the profiles of its files
+/// that are left out on which it could depend, as `why` prints them; and returns whether there is an answer. What the policy remembers of the
+/// question doesn't change its answers.
 ///
 /// # Errors
 ///
@@ -248,7 +247,7 @@ pub fn push_asked(
     Ok(found)
 }
 
-// The same of a folder that was read, by words, with what is told of the files that are left out before it, and what is noted of them.
+// The report on a folder that was read, by words, with the files that are left out in front, and the notes on them.
 fn told_of(teller: Teller, folder: &PolicyFolder<'_>, words: &[String]) -> Result<Report, Fault>
     ensures told { IfOk result (λ report. (found : Bool) × IsWhyTold teller.form teller.verbose (seen_folder folder.now) (map string_bytes words.now) report.text.items found
         × (report.failed ≡ failed_by found)) }
@@ -268,26 +267,25 @@ fn told_of(teller: Teller, folder: &PolicyFolder<'_>, words: &[String]) -> Resul
     Ok(report)
 }
 
-/// What the policy of a folder, read by a language, answers to a question, and the rules behind the answer, told in a
-/// form. The question is that of the words, as behind `ask`; or, where they are one word, that of a line of a log
-/// (`aatry_requests::asked_by`). Reads the folder as `aatry_folder::policy_below` does. First come the files that are left out, where they are told,
-/// and it is noted how many they are (`aatry_policy::load_folder`). Of a line of a log the question comes then, in the words in which it could be asked.
-/// Then comes what `ask` would be answered, and behind it the rules, each with the
-/// place where it is written (`aatry_why_lines`); where something isn't allowed, the rule that is missing and the nearest ones too; and of the start
-/// of a program where its transition leads and what its path may be attached to. Where who asks is in mode unconfined, it is told in place of rules
-/// that none is asked. Where nobody of the name is loaded, the refusal is told, and one failed; and the loaded name that may have been meant, if one is near.
-/// Behind all stand the profiles of files that are left out on which the answer could hang (`push_uncertain`).
+/// The answer of the policy of a folder, read by a language, to a question, and the rules that decide it, in a form. The question is that of the
+/// words, as after `ask`; or, where they are one word, that of a line of a log (`aatry_requests::asked_by`). The folder is read as by
+/// `aatry_folder::policy_below`. First come the files that are left out, where these are reported, and it is noted how many they are
+/// (`aatry_policy::load_folder`). For a line of a log the question comes then, in the words in which it could be asked. Then comes the reply that
+/// `ask` would have, followed by the rules, each with the place where it is written (`aatry_why_lines`); where something isn't allowed, the rule
+/// that is missing and the nearest ones too; and for the start of a program where its transition leads and what may attach to its path. Where the
+/// asker is in mode unconfined, it is reported in place of rules that none decides. Where nothing of the name is loaded, the refusal is reported,
+/// and one failed; and the loaded name that may have been meant, if one is near. Last come the profiles of files that are left out on which the
+/// answer could depend (`push_uncertain`).
 ///
-/// As records, the reply is one of the kind `answer`, with the texts `answer` and `audit`, the line that logs it, which
-/// is empty where none does; and a refusal is one of the kind `refused`, with `number` and `refusal`, and with `near`,
-/// the name that may have been meant, where one is near. That no rule is asked is one of the kind `mode`, with `mode`.
-/// The question of a line of a log is one of the kind `request`, with `question`.
+/// As records, the reply is one of the kind `answer`, with the texts `answer` and `audit`, the line that logs it, which is empty where it isn't
+/// logged; and a refusal is one of the kind `refused`, with `number` and `refusal`, and with `near`, the name that may have been meant, where one is
+/// near. That no rule decides is one of the kind `mode`, with `mode`. The question of a line of a log is one of the kind `request`, with `question`.
 ///
 /// # Errors
 ///
 /// - `Unreadable` with the first folder or file that can't be read.
 /// - `TooMany` where there are more than 65,536 files and folders.
-/// - `BadQuestion` where the words ask no question.
+/// - `BadQuestion` where the words make no question.
 /// - `NoMemory` where memory ran out.
 pub fn why_folder<F: Folders, D: FileSystem>(
     teller: Teller,

@@ -1,4 +1,4 @@
--- The rules behind an answer by what they do.
+-- The rules that decide an answer, by what they do.
 use Rattle.std.specs.Prelude.{ℕ, Bool, true, false, not, ◌&&◌, List, codes}
 use Rattle.std.specs.List.{filter}
 use Rattle.aa_explain_rules.specs.Laws.{places_of}
@@ -24,6 +24,6 @@ does (Auditing false) rule = rule.audited && not rule.denies
 abbrev pub is_in : Group → ToldRule → Bool
 is_in group rule = does_something rule && does group rule
 
--- the places of the rules of a group
+-- the indexes of the rules of a group
 abbrev pub places_in : Group → List ToldRule → List ℕ
 places_in group told = places_of (filter (is_in group) told)

@@ -1,4 +1,4 @@
--- Rules that aren't there, as they are told.
+-- Missing rules, as they are reported.
 use Rattle.std.specs.Prelude.{ℕ, if◌then◌else◌, List, [], ◌∷◌, ◌++◌, codes, None, Some}
 use Rattle.std.specs.Str.{bytes_eq}
 use Rattle.serde_json.specs.Data.{Members}
@@ -15,30 +15,30 @@ use Rattle.aatry_why_lines.specs.Lines.{shown_rule}
 use Rattle.aatry_why_lines.specs.declared.missing.Missing.{Missing}
 use Rattle.aatry_why_lines.specs.declared.missing.Missing.TheVariants.{OfRequest, OfScript}
 
--- A rule that isn't there, as a profile's file writes it; one that no file writes, as `show` tells it.
+-- A missing rule, as a profile's file writes it; one that no file writes, as `show` prints it.
 abbrev pub pasted_rule : Rule → List ℕ
 pasted_rule rule = elim (written_rule rule) [ None ↦ rule_text rule | Some text ↦ text ]
 
--- the words over a rule that isn't there
+-- the words over a missing rule
 abbrev pub missing_words : Missing → List ℕ
 missing_words OfRequest = codes "missing rule"
 missing_words OfScript = codes "missing rule, where it is a script"
 
--- a record with that it is missing where a script is started
+-- a record with that a rule is missing where a script is started
 abbrev pub with_case : Missing → Members → Members
 with_case OfRequest members = members
 with_case OfScript members = with_text (codes "for") (codes "script") members
 
--- a record of a rule that isn't there
+-- a record of a missing rule
 abbrev pub missing_record : Missing → Rule → Members
 missing_record case rule = with_case case (with_text (codes "rule") (pasted_rule rule) (record_of (codes "missing")))
 
--- The same on a line, where it is shown. Where a terminal obeys one of its bytes it is told as `show` tells it, too: with what is shown in the place of
--- that byte it would be another rule.
+-- A missing rule on a line, where it is shown. Where a terminal obeys one of its bytes it is printed as by `show`, too: with what is shown in place
+-- of that byte it would be another rule.
 abbrev pub shown_missing : Rule → List ℕ
 shown_missing rule = if bytes_eq (shown (pasted_rule rule)) (pasted_rule rule) then pasted_rule rule else shown_rule rule
 
--- the line of a rule that isn't there, below words of its own
+-- the line of a missing rule, below words of its own
 abbrev pub missing_line : Form → Missing → Rule → List ℕ
 missing_line Lines case rule = heading_line Lines (missing_words case) ++ codes "  " ++ shown_missing rule ++ line_feed ∷ []
 missing_line Records case rule = record_line (missing_record case rule)

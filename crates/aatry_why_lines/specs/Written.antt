@@ -6,8 +6,8 @@ use Rattle.aa_explain_rules.specs.Asked.{audits_of, rules_of}
 use Rattle.aatry_folder.specs.PolicyFiles.{PolicyFiles, seen_files}
 use Rattle.aatry_why_lines.specs.declared.written.WrittenRules.{WrittenRules}
 
--- Rules: what lies below the folder of policy, the name of the file that has the profile, whether the profile's flag audits each of the
--- rules, the rules themselves, and where they stand.
+-- Rules: what lies below the folder of policy, the name of the file that has the profile, the profile's flag that audits each of the rules, the
+-- rules themselves, and where they are written.
 pub record Written : Type 0 where
   pub below : PolicyFiles
   pub name : List ℕ

@@ -1,4 +1,4 @@
-//! Where rules stand in the files of a folder.
+//! Where rules are written in the files of a folder.
 
 ghost use Rattle.std.specs.Prelude.{◌≡◌, ◌==◌, IfOk, position};
 ghost use Rattle.aa_text_files.specs.Files.{bytes_at};
@@ -21,9 +21,8 @@ pub struct FileWalk {
     walk: Walk,
 }
 
-/// Finds the lines and the columns of places in the files of a folder of policy. It goes over each file once for places
-/// that come in the file's order, whatever places in others come between them. Contracts see the files and the folder's
-/// path.
+/// Finds the lines and the columns of places in the files of a folder of policy. It goes over each file once for places that come in the file's
+/// order, whatever places in other files come between them. Contracts see the files and the folder's path.
 #[derive(Drop)]
 pub struct Finder<'a> {
     // What lies below the folder.
@@ -43,14 +42,14 @@ impl<'a> Model for Finder<'a> {
     ghost invariant = { λ f. AreOfTheirFiles f.below.files.now f.walks.items };
 }
 
-// The place of the walk over a file among some.
+// The index of the walk over a file among some.
 fn walk_place(walks: &[FileWalk], file: usize) -> Option<usize>
     ensures { result ≡ position (λ own. own.file == file) walks.now }
 {
     walks.iter().position(|own| own.file == file)
 }
 
-// Goes on to a place in a file by the walk over it, or by one from the file's beginning where there is none, which is put behind the others.
+// Goes on to a place in a file by the walk over it, or by one from the file's beginning where there is none, which is appended to the others.
 fn walk_on(files: &Files, walks: &mut Vec<FileWalk>, place: Place) -> Result<LinePlace, AllocError>
     requires { AreOfTheirFiles files.now walks.old.items }
     ensures walks { AreOfTheirFiles files.now walks.new.items }
@@ -101,14 +100,14 @@ impl<'a> Finder<'a> {
         *self.walks.allocator()
     }
 
-    // The path that the file of a name is told by.
+    // The path of the file of a name in reports.
     pub(crate) fn path_below(&self, name: &[u8]) -> Result<Vec<u8>, AllocError>
         ensures { IfOk result (λ path. path.items ≡ path_below self.now.base name.now) }
     {
         path_below(self.alloc(), self.below.base, name)
     }
 
-    // The path that the file of a place is told by.
+    // The path of the file of a place in reports.
     pub(crate) fn path_of(&self, place: Place) -> Result<Vec<u8>, AllocError>
         ensures { IfOk result (λ path. path.items ≡ path_below self.now.base (name_at self.now.files place.file)) }
     {

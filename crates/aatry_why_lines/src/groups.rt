@@ -1,4 +1,4 @@
-//! The rules behind an answer by what they do.
+//! The rules that decide an answer, by what they do.
 
 ghost use Rattle.std.specs.Prelude.{◌≡◌, IfOk};
 ghost use Rattle.aa_explain_rules.specs.Logged.{does_something, is_denied};
@@ -33,7 +33,7 @@ pub fn heading(group: Group) -> &'static str
     }
 }
 
-// Whether a rule covers something of what is asked for.
+// Whether a rule covers some of the request's needs.
 fn does_something(rule: &ToldRule) -> bool
     ensures { result ≡ does_something rule.now }
 {
@@ -52,7 +52,7 @@ fn does(group: Group, rule: &ToldRule) -> bool
     }
 }
 
-/// Whether some of the rules deny something of what is asked for.
+/// Whether some of the rules deny some of the request's needs.
 pub fn is_denied(told: &[ToldRule]) -> bool
     ensures { result ≡ is_denied told.now }
 {
@@ -66,7 +66,7 @@ fn is_in(group: Group, rule: &ToldRule) -> bool
     does_something(rule) && does(group, rule)
 }
 
-/// The places of the rules of a group, in their order.
+/// The indexes of the rules of a group, in their order.
 ///
 /// # Errors
 ///

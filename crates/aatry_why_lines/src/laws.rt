@@ -1,4 +1,4 @@
-//! What holds of the rules that are told below the words of a group, as a law over the definitions that the calls are proved to follow.
+//! What holds of the rules that are reported below the words of a group, as a law over the definitions that the calls are proved to follow.
 
 ghost use Rattle.std.specs.Prelude.{◌==◌, ◌≡◌, ◌||◌, Bool, List, is_some, not};
 ghost use Rattle.aa_bytes.specs.Texts.{is_empty};
@@ -13,7 +13,7 @@ ghost use Rattle.aatry_why_lines.specs.declared.groups.Group.TheVariants.{Auditi
 
 use aa_explain_rules::what_is_logged;
 
-/// An answer is logged exactly where something of the request is missing, or some rule stands below `audited by`.
+/// An answer is logged exactly where something of the request is missing, or some rule is below `audited by`.
 pub fn what_is_told_as_audited()
     ensures { (mediation : Mediation) (flag : Bool) (request : Request) (rules : List Rule)
         → is_some (verdict mediation flag rules request).tag

@@ -1,4 +1,4 @@
-//! What is told of the rules behind an answer, as lines or as records: each with the line and the column where it is written.
+//! The report on the rules that decide an answer, as lines or as records: each with the line and the column where it is written.
 #![tactic(auto)]
 
 mod finding;

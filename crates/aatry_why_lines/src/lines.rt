@@ -1,4 +1,4 @@
-//! The lines and the records that tell rules with the places where they are written.
+//! The lines and the records of rules with the places where they are written.
 
 ghost use Rattle.std.specs.Prelude.{◌≡◌, ◌++◌, [], IfOk, OnOk, codes, flat_map};
 ghost use Rattle.aa_set_answers.specs.RuleLines.{rule_text};
@@ -19,12 +19,12 @@ use aa_text_files::Place;
 use aatry_report::{Form, Record, Teller, push_heading, push_place, push_shown, put_place};
 use std::alloc::{AllocError, Global};
 
-/// Puts where a rule stands behind a text: the folder's path with the name of the file, the line and the column where it is written. One without a
-/// place stands in the profile's file, that of the name.
+/// Appends where a rule is written to a text: the folder's path with the name of the file, the line and the column. A rule without a place is in the
+/// profile's file, which has the name.
 ///
 /// # Errors
 ///
-/// Where memory runs out. A beginning may have been put then.
+/// Where memory runs out. A beginning may have been appended then.
 pub fn push_where(
     finder: &mut Finder<'_>,
     name: &[u8],
@@ -48,8 +48,8 @@ pub fn push_where(
     }
 }
 
-/// Puts where a rule stands into a record: by the name `file`, the folder's path with the name of the file, and by `line` and `column` where it is
-/// written. One without a place stands in the profile's file, that of the name, which is put alone.
+/// Puts where a rule is written into a record: by the name `file`, the folder's path with the name of the file, and by `line` and `column`. A rule
+/// without a place is in the profile's file, which has the name; only that is put then.
 ///
 /// # Errors
 ///
@@ -76,7 +76,7 @@ pub fn put_where(
     }
 }
 
-// Puts a rule, as `show` tells it, into a record.
+// Puts a rule, as `show` prints it, into a record.
 fn put_rule(alloc: Global, rule: &Rule, into: &mut Record) -> Result<(), AllocError>
     ensures { OnOk result (seen_record into.new ≡ with_text (codes "rule") (rule_text rule.now) (seen_record into.old)) }
 {
@@ -85,7 +85,7 @@ fn put_rule(alloc: Global, rule: &Rule, into: &mut Record) -> Result<(), AllocEr
     into.put_text(alloc, "rule", &text)
 }
 
-// Puts a rule behind a text, as `show` tells it: as it is shown.
+// Appends a rule, as `show` prints it, to a text: as it is shown at a terminal.
 pub fn push_shown_rule(alloc: Global, rule: &Rule, out: &mut Vec<u8>) -> Result<(), AllocError>
     ensures { OnOk result (out.new.items ≡ out.old.items ++ shown_rule rule.now) }
 {
@@ -104,7 +104,7 @@ fn is_by_all(rule: &Rule) -> bool
     }
 }
 
-// Puts behind a text that a rule is by `all`, where it is.
+// Appends that a rule is by `all` to a text, where it is.
 fn push_maker(rule: &Rule, out: &mut Vec<u8>) -> Result<(), AllocError>
     ensures { OnOk result (out.new.items ≡ out.old.items ++ maker_text rule.now) }
 {
@@ -144,7 +144,7 @@ fn rule_record(
     Ok(made)
 }
 
-// Puts the line of a rule of a group behind a text.
+// Appends the line of a rule of a group to a text.
 fn push_rule_line(
     finder: &mut Finder<'_>,
     name: &[u8],
@@ -163,7 +163,7 @@ fn push_rule_line(
     Ok(())
 }
 
-// Puts the line of a rule of a group below these words behind a text.
+// Appends the line or record of a rule of a group below these words to a text.
 fn push_told(
     finder: &mut Finder<'_>,
     teller: Teller,
@@ -182,7 +182,7 @@ fn push_told(
     }
 }
 
-// Where the rule at an index stands.
+// Where the rule at an index is written.
 fn place_at(places: &[Option<Place>], index: usize) -> Option<Place>
     ensures { result ≡ place_at places.now index }
 {
@@ -192,7 +192,7 @@ fn place_at(places: &[Option<Place>], index: usize) -> Option<Place>
     }
 }
 
-// Puts the line of the rule at an index behind a text, if there is one.
+// Appends the line or record of the rule at an index to a text, if there is one.
 fn push_line(
     finder: &mut Finder<'_>,
     teller: Teller,
@@ -214,11 +214,11 @@ fn push_line(
     }
 }
 
-/// Puts the lines of the rules at some indexes behind a text; the words over their group stand in records alone.
+/// Appends the lines of the rules at some indexes to a text; only records have the words over their group.
 ///
 /// # Errors
 ///
-/// Where memory runs out. A beginning may have been put then.
+/// Where memory runs out. A beginning may have been appended then.
 pub fn push_lines(
     teller: Teller,
     written: &WrittenRules<'_>,
@@ -237,12 +237,12 @@ pub fn push_lines(
     Ok(())
 }
 
-/// Puts the lines of the rules at some indexes behind a text, below these words; or, as the form says, a record of each, which has the words itself.
+/// Appends the lines of the rules at some indexes to a text, below these words; or, in records, a record of each, which has the words itself.
 /// Nothing where there is no index.
 ///
 /// # Errors
 ///
-/// Where memory runs out. A beginning may have been put then.
+/// Where memory runs out. A beginning may have been appended then.
 pub fn push_group(
     teller: Teller,
     written: &WrittenRules<'_>,

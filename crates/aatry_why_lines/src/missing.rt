@@ -1,4 +1,4 @@
-//! Rules that aren't there, as they are told.
+//! Missing rules, as they are reported.
 
 ghost use Rattle.std.specs.Prelude.{◌≡◌, ◌++◌, IfOk, OnOk};
 ghost use Rattle.std.specs.Str.{bytes_eq};
@@ -14,7 +14,7 @@ use aa_set_answers::push_rule;
 use aatry_report::{Form, Record, Teller, push_heading, push_shown};
 use std::alloc::{AllocError, Global};
 
-/// What a rule is missing for that isn't there.
+/// For what a rule is missing.
 #[derive(Clone, Copy)]
 pub enum Missing {
     /// For a request.
@@ -23,7 +23,7 @@ pub enum Missing {
     OfScript,
 }
 
-/// A rule that isn't there, as a profile's file writes it, so that it can be pasted; one that no file writes, as `show` tells it.
+/// A missing rule, as a profile's file writes it, so that it can be pasted; one that no file writes, as `show` prints it.
 ///
 /// # Errors
 ///
@@ -41,7 +41,7 @@ pub fn pasted_rule(alloc: Global, rule: &Rule) -> Result<Vec<u8>, AllocError>
     }
 }
 
-// The words over a rule that isn't there.
+// The words over a missing rule.
 fn missing_words(case: Missing) -> &'static str
     ensures { result.now ≡ missing_words case }
 {
@@ -51,7 +51,7 @@ fn missing_words(case: Missing) -> &'static str
     }
 }
 
-// Puts that it is missing where a script is started into a record.
+// Puts that a rule is missing where a script is started into a record.
 fn put_case(alloc: Global, case: Missing, into: &mut Record) -> Result<(), AllocError>
     ensures { OnOk result (seen_record into.new ≡ with_case case (seen_record into.old)) }
 {
@@ -61,7 +61,7 @@ fn put_case(alloc: Global, case: Missing, into: &mut Record) -> Result<(), Alloc
     }
 }
 
-// The record of a rule that isn't there.
+// The record of a missing rule.
 fn missing_record(alloc: Global, case: Missing, rule: &Rule) -> Result<Record, AllocError>
     ensures { IfOk result (λ made. seen_record made ≡ missing_record case rule.now) }
 {
@@ -81,7 +81,7 @@ fn is_shown_whole(alloc: Global, text: &[u8]) -> Result<bool, AllocError>
     Ok(told.as_slice() == text)
 }
 
-/// Appends a rule that isn't there to a text, as `pasted_rule` has it; where a terminal would obey one of its bytes, as `show` tells it.
+/// Appends a missing rule to a text, like `pasted_rule`; where a terminal would obey one of its bytes, as `show` prints it.
 ///
 /// # Errors
 ///
@@ -97,7 +97,7 @@ pub fn push_shown_missing(alloc: Global, rule: &Rule, out: &mut Vec<u8>) -> Resu
     }
 }
 
-// Puts the line of a rule that isn't there behind a text, below words of its own.
+// Appends the line of a missing rule to a text, below words of its own.
 fn push_missing_line(
     alloc: Global,
     case: Missing,
@@ -113,14 +113,13 @@ fn push_missing_line(
     Ok(())
 }
 
-/// Puts the line of a rule that isn't there behind a text, below words of its own; or a record of it, of the kind `missing`, with `for` where it is missing of a
-/// script alone. The rule is told as
-/// a profile's file writes it, with a comma behind it; and as `show` tells it where no file writes it, and on a line where a terminal obeys one of
-/// its bytes.
+/// Appends the line of a missing rule to a text, below words of its own; or a record of it, of the kind `missing`, with `for` where it is missing
+/// for a script alone. The rule is written like in a profile's file, followed by a comma; and as `show` prints it where no file writes it, and on a
+/// line where a terminal obeys one of its bytes.
 ///
 /// # Errors
 ///
-/// Where memory runs out. A beginning may have been put then.
+/// Where memory runs out. A beginning may have been appended then.
 pub fn push_missing(
     teller: Teller,
     case: Missing,

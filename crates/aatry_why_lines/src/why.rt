@@ -1,4 +1,4 @@
-//! What is told of the rules behind an answer.
+//! The report on the rules that decide an answer.
 
 ghost use Rattle.std.specs.Prelude.{◌≡◌, ◌++◌, IfOk, OnOk};
 ghost use Rattle.aa_profile_data.specs.SeenRequests.{request_of};
@@ -22,7 +22,7 @@ use aatry_report::Teller;
 use bitflags::Flags;
 use std::alloc::{AllocError, Global};
 
-// Puts the lines of the rules of a group behind a text.
+// Appends the lines of the rules of a group to a text.
 fn push_told_group(
     teller: Teller,
     written: &WrittenRules<'_>,
@@ -36,7 +36,7 @@ fn push_told_group(
     push_group(teller, written, heading(group), &indexes, out)
 }
 
-// The places of the rules that decide where a program runs, where its start is asked for.
+// The indexes of the rules that decide under which profile a program runs, where its start is asked for.
 fn deciding(
     alloc: Global,
     request: &Request<'_>,
@@ -56,7 +56,7 @@ fn deciding(
     }
 }
 
-// Puts the lines of the rules that decide where a program runs behind a text.
+// Appends the lines of the rules that decide under which profile a program runs to a text.
 fn push_deciding(
     teller: Teller,
     written: &WrittenRules<'_>,
@@ -69,7 +69,7 @@ fn push_deciding(
     push_group(teller, written, "decided by", &indexes, out)
 }
 
-// Puts the line of a rule that isn't there behind a text, if there is such a one.
+// Appends the line of a missing rule to a text, if there is one.
 fn push_rule_of(
     teller: Teller,
     case: Missing,
@@ -84,7 +84,7 @@ fn push_rule_of(
     }
 }
 
-// Puts the lines of the rule that a request lacks behind a text, and of the one that it lacks where it starts a script.
+// Appends the line of the rule that a request lacks to a text, and of the one that it lacks where it starts a script.
 fn push_adding(
     teller: Teller,
     written: &WrittenRules<'_>,
@@ -99,7 +99,7 @@ fn push_adding(
     push_rule_of(teller, Missing::OfScript, rule, out)
 }
 
-// Puts these behind a text, or in their place the lines of the rules in the way, if there are any.
+// Appends the lines of the missing rules to a text, or in their place those of the rules in the way, if there are any.
 fn push_missing_rules(
     teller: Teller,
     written: &WrittenRules<'_>,
@@ -117,7 +117,7 @@ fn push_missing_rules(
     push_group(teller, written, "in the way", &way, out)
 }
 
-// Puts the lines of the nearest rules behind a text.
+// Appends the lines of the nearest rules to a text.
 fn push_nearest(
     teller: Teller,
     written: &WrittenRules<'_>,
@@ -130,7 +130,7 @@ fn push_nearest(
     push_group(teller, written, "nearest rules", &indexes, out)
 }
 
-// Puts both there where something of the request isn't allowed.
+// Appends the lines of the missing and of the nearest rules to a text, where something of the request isn't allowed.
 fn push_lacking(
     teller: Teller,
     written: &WrittenRules<'_>,
@@ -148,11 +148,11 @@ fn push_lacking(
     push_nearest(teller, written, request, out)
 }
 
-/// Puts the rules behind a text that allow something of what a request asks for, as `push_why` tells those that allow, but with no words over them.
+/// Appends the rules that allow some of a request's needs to a text, like `push_why`, but without words over them.
 ///
 /// # Errors
 ///
-/// Where memory runs out. A beginning may have been put then.
+/// Where memory runs out. A beginning may have been appended then.
 pub fn push_allowing(
     teller: Teller,
     written: &WrittenRules<'_>,
@@ -166,7 +166,7 @@ pub fn push_allowing(
     push_lines(teller, written, heading(Group::Allowing), &indexes, out)
 }
 
-// Appends the lines of the rules to a text whose doings are logged; none where something of the request isn't allowed.
+// Appends the lines of the rules whose effect is logged to a text; none where something of the request isn't allowed.
 fn push_auditing(
     teller: Teller,
     written: &WrittenRules<'_>,
@@ -183,7 +183,7 @@ fn push_auditing(
     push_told_group(teller, written, told, Group::Auditing { denied }, out)
 }
 
-// Puts the lines of the rules of each group behind a text.
+// Appends the lines of the rules of each group to a text.
 fn push_groups(
     teller: Teller,
     written: &WrittenRules<'_>,
@@ -198,7 +198,7 @@ fn push_groups(
     push_auditing(teller, written, told, lacking, out)
 }
 
-// Puts the lines of the rules that apply to a request behind a text.
+// Appends the lines of the rules that apply to a request to a text.
 fn push_applying(
     teller: Teller,
     written: &WrittenRules<'_>,
@@ -214,16 +214,14 @@ fn push_applying(
     push_groups(teller, written, &told, lacking, out)
 }
 
-/// Appends the rules behind the answer to a request to a text, as they decide it: those that deny, that allow, and by
-/// which the answer is logged, those that decide where a program runs, where its start is asked for, each group below
-/// its words, and, where `lacking` says that something of it isn't allowed, the rule that is missing
-/// (`aa_explain_rules::missing_rule`), with the one that is where a script is started (`script_rule`), or the rules in the way of
-/// it (`rules_in_the_way`), and those that are near. A rule that is in two groups is told in both. Each has a
-/// line of its own: `base` with the file's name, the line and the column where it is written, and the rule as `show`
-/// tells it; behind one that says where a program goes that no other rule leads it tells that it is by `all`. As
-/// records, of the kind `rule`, these are `file`, `line` and `column`, `rule`, and for such a one `made_by`, with the
-/// words of the group, `group`, in each and none above; a missing rule, of the kind `missing`, has `rule`, and `for` where it
-/// is that of a script.
+/// Appends the rules that decide the answer to a request to a text: those that deny, that allow, and by which the answer is logged, those that
+/// decide under which profile a program runs, where its start is asked for, each group below its words, and, where `lacking` says that something of
+/// it isn't allowed, the rule that is missing (`aa_explain_rules::missing_rule`), with the one that is missing where a script is started
+/// (`script_rule`), or the rules in the way of it (`rules_in_the_way`), and those that are near. A rule that is in two groups is in both. Each has a
+/// line of its own: `base` with the file's name, the line and the column where it is written, and the rule as `show` prints it; one that says where
+/// a program goes that no other rule leads is followed by the words that it is by `all`. As records, of the kind `rule`, these are `file`, `line`
+/// and `column`, `rule`, and for such a one `made_by`, with the words of the group, `group`, in each and none above; a missing rule, of the kind
+/// `missing`, has `rule`, and `for` where it is that of a script.
 ///
 /// # Errors
 ///

@@ -13,6 +13,6 @@ pub struct WrittenRules<'a> {
     pub name: &'a [u8],
     /// The rules.
     pub rules: AskedRules<'a>,
-    /// Where each of them is written, in the same order; one without a place stands in the profile's file.
+    /// Where each of them is written, in the same order; one without a place is in the profile's file.
     pub places: &'a [Option<Place>],
 }

@@ -1,15 +1,15 @@
--- How the kernel and its tools write the name of a capability: behind `CAP_`, as linux/capability.h and capabilities(7) do, or behind `cap_`, as
--- capsh(1) and getcap(8) do. The case of the letters behind that doesn't matter.
+-- How the kernel and its tools write the name of a capability: after `CAP_`, as linux/capability.h and capabilities(7) do, or after `cap_`, as
+-- capsh(1) and getcap(8) do. The case of the letters after that doesn't matter.
 use Rattle.std.specs.Prelude.{ℕ, ◌||◌, Bool, if◌then◌else◌, List, [], ◌∷◌, Option, None, Some, codes, drop}
 use Rattle.std.specs.Str.{str_eq_ignore_ascii_case, str_to_ascii_lowercase}
 use Rattle.aa_bytes.specs.Texts.{begins_with}
 use Rattle.aa_profile_data.specs.Capabilities.{names}
 
--- a word begins as such a name does
+-- a word begins like such a name
 abbrev pub is_prefixed : List ℕ → Bool
 is_prefixed word = begins_with (codes "CAP_") word || begins_with (codes "cap_") word
 
--- what stands behind that, or else the word
+-- what follows the prefix of a word, or else the whole word
 abbrev pub bare_name : List ℕ → List ℕ
 bare_name word = if is_prefixed word then drop 4 word else word
 

@@ -11,7 +11,7 @@ pub record IsMeant (name : List ℕ) : Type 0 where
   pub lower : capability_meant (codes "cap_" ++ name) ≡ name
   pub upper : capability_meant (codes "CAP_" ++ str_to_ascii_uppercase name) ≡ name
 
--- a word is that name of the table, but for the case of its letters, behind what such names begin with
+-- a word is that name of the table, apart from the case of its letters, after the prefix of such names
 pub record IsWrittenFor (word name : List ℕ) : Type 0 where
   pub prefixed : is_prefixed word ≡ true
   pub known : list_any (bytes_eq name) names ≡ true

@@ -7,7 +7,7 @@ use Rattle.aatry_words.specs.declared.moments.Moment.{Moment}
 abbrev pub IsMoment : Moment → Type 0
 IsMoment moment = IsCivilDate moment.year moment.month moment.day × IsTimeOfDay moment.hour moment.minute moment.second
 
--- the same, as a test
+-- a moment is one of the calendar and the clock, as a test
 abbrev pub is_moment : Moment → Bool
 is_moment moment =
     nat_le 1970 moment.year && nat_le moment.year 9999 && nat_le 1 moment.month && nat_le moment.month 12
@@ -18,13 +18,13 @@ is_moment moment =
 abbrev pub seconds_to : Moment → ℕ
 seconds_to moment = seconds_from_civil moment.year moment.month moment.day moment.hour moment.minute moment.second
 
--- The year in which a day lies, by how many days it stands behind the start of a year, and how many of the year it stands behind: whole years are counted
+-- The year of a day, by how many days it is after the start of a year, and how many days it is after the start of that year: whole years are counted
 -- off, so many at most.
 unfoldable pub year_in : (most year days : ℕ) → ℕ × ℕ
 year_in zero year days = (year, days)
 year_in (suc most) year days = if nat_lt days (days_in_year year) then (year, days) else year_in most (year + 1) (days - days_in_year year)
 
--- the month in which a day lies, likewise
+-- the month of a day, likewise
 unfoldable pub month_in : (most year month days : ℕ) → ℕ × ℕ
 month_in zero year month days = (month, days)
 month_in (suc most) year month days =
@@ -48,10 +48,10 @@ moment_with year month seconds = record {
   second = seconds % 60;
 }
 
--- the same by a year with how many of its days are past
+-- the moment by a year with how many of its days are past
 abbrev pub moment_in : ℕ × ℕ → (seconds : ℕ) → Moment
 moment_in year seconds = moment_with year.0 (month_in most_months year.0 1 year.1) seconds
 
--- the moment so many seconds behind the start of 1970
+-- the moment so many seconds after the start of 1970
 abbrev pub moment_of : ℕ → Moment
 moment_of seconds = moment_in (year_in most_years 1970 (seconds / 86400)) (seconds % 86400)

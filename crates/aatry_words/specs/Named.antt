@@ -16,7 +16,7 @@ hyphen = 45
 abbrev pub colon : ℕ
 colon = 58
 
--- a byte stands at a place of a word, unless the word ends ahead of it
+-- a byte is at an index of a word, unless the word ends before it
 abbrev pub stands_at : (byte place : ℕ) → List ℕ → Bool
 stands_at byte place word = nat_le (length word) place || slice_index word place == byte
 
@@ -26,17 +26,17 @@ has_form word =
     (length word == 10 || length word == 16 || length word == 19)
     && stands_at hyphen 4 word && stands_at hyphen 7 word && stands_at space 10 word && stands_at colon 13 word && stands_at colon 16 word
 
--- the number that so many digits at a place of a word write, which is 0 where the word ends ahead of them
+-- the number of some digits at an index of a word, which is 0 where the word ends before them
 abbrev pub number_at : (place digits : ℕ) → List ℕ → Option ℕ
 number_at place digits word = if nat_le (length word) place then Some 0 else number_of (take digits (drop place word))
 
--- the moment of six numbers, if each is there
+-- the moment of six numbers, if each is given
 abbrev pub moment_by : (year month day hour minute second : Option ℕ) → Option Moment
 moment_by (Some year) (Some month) (Some day) (Some hour) (Some minute) (Some second) =
     Some (record { year = year; month = month; day = day; hour = hour; minute = minute; second = second })
 moment_by _ _ _ _ _ _ = None
 
--- the moment that the numbers of a word write
+-- the moment of the numbers of a word
 abbrev pub moment_in : List ℕ → Option Moment
 moment_in word = moment_by (number_at 0 4 word) (number_at 5 2 word) (number_at 8 2 word) (number_at 11 2 word) (number_at 14 2 word) (number_at 17 2 word)
 

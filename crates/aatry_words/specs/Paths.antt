@@ -6,7 +6,7 @@ use Rattle.aatry_words.specs.Near.{nearest}
 abbrev pub slash : ℕ
 slash = 47
 
--- a word is the end of a name, behind one of its slashes
+-- a word is the end of a name, after one of its slashes
 abbrev pub is_end_of : List ℕ → List ℕ → Bool
 is_end_of word [] = false
 is_end_of word (byte ∷ more) = (byte == slash && bytes_eq more word) || is_end_of word more
@@ -21,6 +21,6 @@ abbrev pub or_else : Option (List ℕ) → Option (List ℕ) → Option (List �
 or_else (Some name) other = Some name
 or_else None other = other
 
--- Which of some names, as paths are, a word may have been meant for: the first of which it is the end, and else the nearest.
+-- Which of some names, which are paths, a word may stand for: the first of which it is the end, and else the nearest.
 abbrev pub near_path : List ℕ → List (List ℕ) → Option (List ℕ)
 near_path word names = or_else (first_ending word names) (nearest word names)

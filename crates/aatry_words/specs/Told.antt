@@ -1,4 +1,4 @@
--- Times as they are told: in UTC, as `2026-11-28 10:20:30`.
+-- Times as they are printed: in UTC, as `2026-11-28 10:20:30`.
 use Rattle.std.specs.Prelude.{ℕ, ◌+◌, ◌/◌, ◌%◌, List, [], ◌∷◌, ◌++◌, codes}
 use Rattle.aatry_words.specs.Moments.{moment_of}
 use Rattle.aatry_words.specs.declared.moments.Moment.{Moment}

@@ -3,7 +3,7 @@
 ghost use Rattle.std.specs.Prelude.{◌≡◌, ◌+◌, ◌-◌, ◌*◌, ◌≤◌};
 ghost use Rattle.httpdate.specs.Calendar.{days_in_month, days_in_year, days_of_months, days_of_years, is_leap_year};
 
-// Whether a year has a day more.
+// Whether a year has one more day.
 fn is_leap_year(year: u64) -> bool
     ensures { result ≡ is_leap_year year }
 {
@@ -30,7 +30,7 @@ pub fn days_in_month(year: u64, month: u64) -> u64
     }
 }
 
-/// How many days the years from 1970 on have, ahead of a year.
+/// How many days the years from 1970 up to a year have, without that year.
 pub fn days_before_year(year: u64) -> u64
     requires first { 1970 ≤ year }
     requires last { year ≤ 9999 }
@@ -44,7 +44,7 @@ pub fn days_before_year(year: u64) -> u64
     days
 }
 
-/// How many days the months of a year have, ahead of a month.
+/// How many days the months of a year before a month have.
 pub fn days_before_month(year: u64, month: u64) -> u64
     requires first { 1 ≤ month }
     requires last { month ≤ 12 }

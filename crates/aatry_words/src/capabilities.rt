@@ -8,17 +8,17 @@ use aa_bytes::{begins_with, behind};
 use aa_profile_data::CAPABILITIES;
 use std::alloc::{AllocError, Global};
 
-// How many bytes stand before the name.
+// How many bytes come before the name.
 const PREFIX: usize = 4;
 
-// Whether a word begins as such a name does.
+// Whether a word begins like such a name.
 fn is_prefixed(word: &[u8]) -> bool
     ensures { result ≡ is_prefixed word.now }
 {
     begins_with(b"CAP_", word) || begins_with(b"cap_", word)
 }
 
-// What stands behind that, or else the word.
+// What follows the prefix of a word, or else the whole word.
 fn bare_name(word: &[u8]) -> &[u8]
     ensures { result.now ≡ bare_name word.now }
 {
@@ -58,7 +58,7 @@ fn known_name(word: &[u8]) -> Option<&'static str>
     named(&CAPABILITIES, word)
 }
 
-/// The name of the capability that a word means: behind `CAP_` or `cap_`, as the kernel's header and its tools write it (capabilities(7), capsh(1)),
+/// The name of the capability that a word means: after `CAP_` or `cap_`, as the kernel's header and its tools write it (capabilities(7), capsh(1)),
 /// the letters may be of either case. Any other word means itself. It takes no memory.
 #[tactic(auto, unfolding(crate::specs::Capabilities::capability_meant))]
 pub fn capability_meant(word: &[u8]) -> &[u8]

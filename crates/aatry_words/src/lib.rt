@@ -1,7 +1,7 @@
-//! Words as people and the kernel write them: which of some known names one may have been meant for; masks of requests for files, and names of
-//! capabilities; and times in UTC.
+//! Words as people and the kernel write them: which of some known names one may stand for; masks of requests for files, and names of capabilities;
+//! and times in UTC.
 //!
-//! A time is a number of seconds since the year 1970 began, without leap seconds, and lies before the year 10000.
+//! A time is a number of seconds since the beginning of 1970, without leap seconds, and is before the year 10000.
 #![tactic(auto)]
 
 mod calendar;

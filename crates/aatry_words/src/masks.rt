@@ -7,28 +7,28 @@ ghost use Rattle.aatry_words.specs.Masks.{asked_letter, is_mask, is_mask_letter,
 use aa_profile_data::Perms;
 use bitflags::Flags;
 
-// Whether a letter stands in masks alone.
+// Whether a letter is in masks only.
 fn is_mask_letter(letter: u8) -> bool
     ensures { result ≡ is_mask_letter letter }
 {
     letter == b'c' || letter == b'd'
 }
 
-// The letter that asks for what a letter of a mask tells.
+// The letter of an access for a letter of a mask.
 fn asked_letter(letter: u8) -> u8
     ensures { result ≡ asked_letter letter }
 {
     if is_mask_letter(letter) { b'w' } else { letter }
 }
 
-/// What a letter of a mask tells that a request needs, if it is known. It takes no memory.
+/// The need that a letter of a mask stands for, if it is known. It takes no memory.
 pub fn need_of(letter: u8) -> Option<Perms>
     ensures { option_map (λ need. need.0) result ≡ bit_of (asked_letter letter) }
 {
     Perms::of_letter(asked_letter(letter))
 }
 
-/// What a mask tells that a request needs, if it has a letter and each is known. It takes no memory.
+/// The needs that a mask stands for, if it has a letter and each is known. It takes no memory.
 pub fn needs_of_mask(mask: &[u8]) -> Option<Perms>
     ensures needs { option_map (λ needs. needs.0) result ≡ needs_of_mask mask.now }
     ensures known { IfSome result (λ needs. needs.0 < asked_letters) }
@@ -43,16 +43,16 @@ pub fn needs_of_mask(mask: &[u8]) -> Option<Perms>
     Some(set)
 }
 
-/// Whether an access has a letter that stands in masks alone. It takes no memory.
+/// Whether an access has a letter that is in masks only. It takes no memory.
 pub fn is_mask(access: &[u8]) -> bool
     ensures { result ≡ is_mask access.now }
 {
     access.iter().any(|letter| is_mask_letter(*letter))
 }
 
-/// What an access needs that may be written as the kernel writes masks, with `c` for a file that is created and `d` for one that is deleted: where it
-/// has one of these, what the mask tells (`needs_of_mask`), and else what the letters ask for, of which none stands twice
-/// (`aa_profile_data::Perms::of_letters`). None where no request needs such letters. It takes no memory.
+/// The needs of an access that may be written as the kernel writes masks, with `c` for a file that is created and `d` for one that is deleted: where
+/// it has one of these, the needs of the mask (`needs_of_mask`), and else those of the letters, none of which may be repeated
+/// (`aa_profile_data::Perms::of_letters`). `None` where no request needs such letters. It takes no memory.
 pub fn needs_meant(access: &[u8]) -> Option<Perms>
     ensures needs { option_map (λ needs. needs.0) result ≡ needs_meant access.now }
     ensures known { IfSome result (λ needs. needs.0 < asked_letters) }

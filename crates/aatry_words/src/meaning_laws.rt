@@ -6,8 +6,8 @@ ghost use Rattle.aa_profile_data.specs.Capabilities.{capability_number};
 ghost use Rattle.aatry_words.specs.Laws.{IsMeant, MeansNoOther};
 ghost use Rattle.aatry_words.specs.Masks.{needs_meant};
 
-/// Each capability is meant by its name, by that behind `cap_`, and by that in upper case behind `CAP_`. A word means nothing but itself, where it isn't
-/// the name of a capability behind one of these, but for the case of the name's letters.
+/// Each capability is meant by its name, by that after `cap_`, and by that in upper case after `CAP_`. A word means nothing but itself, where it
+/// isn't the name of a capability after one of these, apart from the case of the name's letters.
 pub fn what_names_mean()
     ensures written { (name : List ℕ) → IsSome (capability_number name) → IsMeant name }
     ensures others { (word : List ℕ) → MeansNoOther word }

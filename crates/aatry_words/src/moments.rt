@@ -23,7 +23,7 @@ pub struct Moment {
     pub second: u64,
 }
 
-// The year in which a day lies, by how many days it stands behind the start of 1970, and how many of the year it stands behind.
+// The year of a day, by how many days it is after the start of 1970, and how many days it is after the start of that year.
 fn year_in(days: u64) -> (u64, u64)
     ensures value { result ≡ year_in most_years 1970 days }
     ensures few { result.1 ≤ days }
@@ -41,7 +41,7 @@ fn year_in(days: u64) -> (u64, u64)
     (year, left)
 }
 
-// The month in which a day of a year lies, by how many days of the year it stands behind, and how many of the month it stands behind.
+// The month of a day of a year, by how many days it is after the start of the year, and how many days it is after the start of that month.
 fn month_in(year: u64, days: u64) -> (u64, u64)
     ensures value { result ≡ month_in most_months year 1 days }
     ensures few { result.1 ≤ days }
@@ -59,7 +59,7 @@ fn month_in(year: u64, days: u64) -> (u64, u64)
     (month, left)
 }
 
-/// The moment so many seconds behind the start of 1970.
+/// The moment so many seconds after the start of 1970.
 pub fn moment_of(seconds: u64) -> Moment
     ensures { result ≡ moment_of seconds }
 {

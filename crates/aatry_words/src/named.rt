@@ -7,7 +7,7 @@ ghost use Rattle.aatry_words.specs.Numbers.{end_of_times};
 use crate::moments::Moment;
 use crate::numbers::number_of;
 
-// Whether a byte stands at a place of a word, unless the word ends ahead of it.
+// Whether a byte is at an index of a word, unless the word ends before it.
 fn stands_at(byte: u8, place: usize, word: &[u8]) -> bool
     ensures { result ≡ stands_at byte place word.now }
 {
@@ -26,7 +26,7 @@ fn has_form(word: &[u8]) -> bool
         && stands_at(b':', 16, word)
 }
 
-// The first of some bytes, so many at most.
+// The first `count` bytes; all, where there are fewer.
 fn at_most(text: &[u8], count: usize) -> &[u8]
     ensures { result.now ≡ take count text.now }
 {
@@ -37,7 +37,7 @@ fn at_most(text: &[u8], count: usize) -> &[u8]
     }
 }
 
-// The number that so many digits at a place of a word write: 0 where the word ends ahead of them.
+// The number of some digits at an index of a word: 0 where the word ends before them.
 fn number_at(place: usize, digits: usize, word: &[u8]) -> Option<u64>
     ensures value { result ≡ number_at place digits word.now }
     ensures small { IfSome result (λ number. number < end_of_times) }
@@ -48,7 +48,7 @@ fn number_at(place: usize, digits: usize, word: &[u8]) -> Option<u64>
     number_of(at_most(&word[place..], digits))
 }
 
-// The moment of six numbers, if each is there.
+// The moment of six numbers, if each is given.
 fn moment_by(
     year: Option<u64>,
     month: Option<u64>,
@@ -69,7 +69,7 @@ fn moment_by(
     })
 }
 
-// The moment that the numbers of a word write.
+// The moment of the numbers of a word.
 fn moment_in(word: &[u8]) -> Option<Moment>
     ensures { result ≡ moment_in word.now }
 {
@@ -105,8 +105,8 @@ fn written_time(word: &[u8]) -> Option<u64>
 }
 
 /// The time that a word names, as seconds since 1970: `@` with these in decimal digits, or a moment in UTC, as `2026-11-28`, `2026-11-28 10:20` or
-/// `2026-11-28 10:20:30`. None where it names none: another form, a moment that the calendar or the clock hasn't, or one before 1970 or behind 9999. It
-/// takes no memory.
+/// `2026-11-28 10:20:30`. `None` where it names none: another form, a moment that the calendar or the clock doesn't have, or one before 1970 or
+/// after 9999. It takes no memory.
 pub fn time_named(word: &[u8]) -> Option<u64>
     ensures { result ≡ time_named word.now }
 {

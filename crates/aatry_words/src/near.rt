@@ -7,7 +7,7 @@ ghost use Rattle.aatry_words.specs.code.SoFar.{seen_so_far};
 use std::alloc::{AllocError, Global};
 use strsim::generic_levenshtein;
 
-// The nearest of the names so far, if one is near, and below how many changes another is nearer.
+// The nearest of the names so far, if one is near, and the number of changes below which another name is nearer.
 #[derive(Clone, Copy)]
 struct SoFar<'a> {
     nearest: Option<&'a [u8]>,
@@ -31,7 +31,7 @@ fn distance(alloc: Global, word: &[u8], name: &[u8]) -> Result<usize, AllocError
     generic_levenshtein(alloc, word, name)
 }
 
-// One name further.
+// The nearest of the names so far, with one more name.
 fn with_next<'a>(
     alloc: Global,
     word: &[u8],
@@ -50,8 +50,8 @@ fn with_next<'a>(
     Ok(so_far)
 }
 
-/// The first of those names that are nearest to a word, if one is near: at most two bytes, and no more than half of the word's, have to be put in, taken
-/// out or replaced, so that the word becomes the name.
+/// The first of those names that are nearest to a word, if one is near: at most two bytes, and no more than half of the word's, have to be inserted,
+/// removed or replaced to turn the word into the name.
 ///
 /// # Errors
 ///
@@ -76,7 +76,7 @@ pub fn nearest<'a>(
     Ok(so_far.nearest)
 }
 
-// Puts the bytes of texts behind others, none of them copied.
+// Appends the bytes of texts to `out`, none of them copied.
 fn push_bytes<'a>(texts: &[&'a str], out: &mut Vec<&'a [u8]>) -> Result<(), AllocError>
     ensures { OnOk result (map (λ text. text.now) out.new.items ≡ map (λ text. text.now) out.old.items ++ map (λ text. text.now) texts.now) }
 {
@@ -86,7 +86,7 @@ fn push_bytes<'a>(texts: &[&'a str], out: &mut Vec<&'a [u8]>) -> Result<(), Allo
     Ok(())
 }
 
-/// The same of names that are texts.
+/// The first of those names that are nearest to a word, if one is near (`nearest`), where the names are texts.
 ///
 /// # Errors
 ///

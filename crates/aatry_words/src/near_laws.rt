@@ -3,8 +3,8 @@
 ghost use Rattle.std.specs.Prelude.{ℕ, List};
 ghost use Rattle.aatry_words.specs.Near.{IsNearest, nearest};
 
-/// The nearest name is one of the names and near the word; those before it are farther away, and those behind it no nearer. Where there is none, no name is
-/// near.
+/// The nearest name is one of the names and near the word; those before it are farther away, and those after it no nearer. Where there is none, no
+/// name is near.
 pub fn which_name_is_nearest()
     ensures { (word : List ℕ) (names : List (List ℕ)) → IsNearest names word (nearest word names) }
 {}

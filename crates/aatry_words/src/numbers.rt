@@ -1,4 +1,4 @@
-//! Numbers that digits write.
+//! Numbers in decimal digits.
 
 ghost use Rattle.std.specs.Prelude.{◌≡◌, ◌<◌, ◌≤◌, IfSome};
 ghost use Rattle.aatry_words.specs.Numbers.{end_of_times, is_digit, number_of, with_digit, with_more};
@@ -13,7 +13,7 @@ fn is_digit(byte: u8) -> bool
     b'0' <= byte && byte <= b'9'
 }
 
-// A number with one more digit behind it.
+// A number with one more digit at its end.
 fn with_digit(number: u64, digit: u8) -> u64
     requires small { number < end_of_times }
     requires digit { 48 ≤ digit }
@@ -22,7 +22,7 @@ fn with_digit(number: u64, digit: u8) -> u64
     number * 10 + (digit - b'0') as u64
 }
 
-// The same, where that is a digit, and the number lies before the end of times.
+// A number with one more byte at its end, if that is a digit, and the number is before the end of times.
 fn one_more(number: u64, digit: u8) -> Option<u64>
     requires { number < end_of_times }
     ensures value { result ≡ with_more number digit }
@@ -35,8 +35,8 @@ fn one_more(number: u64, digit: u8) -> Option<u64>
     if more < END { Some(more) } else { None }
 }
 
-/// The number that a text of decimal digits writes, of which there is one at least: none where another byte stands among them, or where it is
-/// 253,402,300,800 or more, as which the year 10000 begins. It takes no memory.
+/// The number of a text of decimal digits, of which there is at least one; `None` where another byte is among them, or where it is 253,402,300,800
+/// or more, the first second of the year 10000. It takes no memory.
 pub fn number_of(text: &[u8]) -> Option<u64>
     ensures value { result ≡ number_of text.now }
     ensures small { IfSome result (λ number. number < end_of_times) }

@@ -6,7 +6,7 @@ ghost use Rattle.aatry_words.specs.Paths.{first_ending, is_end_of, near_path};
 use crate::near::nearest;
 use std::alloc::{AllocError, Global};
 
-// Whether a word is the end of a name, behind one of its slashes.
+// Whether a word is the end of a name, after one of its slashes.
 fn is_end_of(word: &[u8], name: &[u8]) -> bool
     ensures { result ≡ is_end_of word.now name.now }
 {
@@ -34,8 +34,8 @@ fn first_ending<'a>(word: &[u8], names: &[&'a [u8]]) -> Option<&'a [u8]>
     None
 }
 
-/// Which of some names, as paths are, a word may have been meant for: the first of which it is the end, behind a slash, and else the one that is nearest
-/// to it (`nearest`), if one is near.
+/// Which of some names, which are paths, a word may stand for: the first of which it is the end, after a slash, and else the one that is nearest to
+/// it (`nearest`), if one is near.
 ///
 /// # Errors
 ///

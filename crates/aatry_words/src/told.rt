@@ -1,4 +1,4 @@
-//! Times, as they are told.
+//! Times, as they are printed.
 
 ghost use Rattle.std.specs.Prelude.{◌≡◌, ◌++◌, OnOk};
 ghost use Rattle.aatry_words.specs.Told.{clock_text, date_text, last_digit, four_digits, time_text, two_digits};
@@ -13,7 +13,7 @@ fn last_digit(number: u64) -> u8
     b'0' + (number % 10) as u8
 }
 
-// Puts the last two digits of a number behind a text, and what stands ahead of them.
+// Appends a separator and the last two digits of a number to a text.
 fn push_two(out: &mut Vec<u8>, ahead: &[u8], number: u64) -> Result<(), AllocError>
     ensures { OnOk result (out.new.items ≡ out.old.items ++ ahead.now ++ two_digits number) }
 {
@@ -21,7 +21,7 @@ fn push_two(out: &mut Vec<u8>, ahead: &[u8], number: u64) -> Result<(), AllocErr
     out.extend_from_slice(&[last_digit(number / 10), last_digit(number)])
 }
 
-// Puts the last four digits of a number behind a text.
+// Appends the last four digits of a number to a text.
 fn push_four(out: &mut Vec<u8>, number: u64) -> Result<(), AllocError>
     ensures { OnOk result (out.new.items ≡ out.old.items ++ four_digits number) }
 {
@@ -29,7 +29,7 @@ fn push_four(out: &mut Vec<u8>, number: u64) -> Result<(), AllocError>
     push_two(out, b"", number)
 }
 
-// Puts a day behind a text.
+// Appends a day to a text.
 fn push_date(out: &mut Vec<u8>, moment: &Moment) -> Result<(), AllocError>
     ensures { OnOk result (out.new.items ≡ out.old.items ++ date_text moment.now) }
 {
@@ -38,7 +38,7 @@ fn push_date(out: &mut Vec<u8>, moment: &Moment) -> Result<(), AllocError>
     push_two(out, b"-", moment.day)
 }
 
-// Puts a time of the day behind a text.
+// Appends a time of the day to a text.
 fn push_clock(out: &mut Vec<u8>, moment: &Moment) -> Result<(), AllocError>
     ensures { OnOk result (out.new.items ≡ out.old.items ++ clock_text moment.now) }
 {
@@ -47,11 +47,11 @@ fn push_clock(out: &mut Vec<u8>, moment: &Moment) -> Result<(), AllocError>
     push_two(out, b":", moment.second)
 }
 
-/// Puts a time behind a text, given by its seconds since 1970, as it is told in UTC: `2026-11-28 10:20:30`.
+/// Appends a time to a text, given by its seconds since 1970, in UTC: `2026-11-28 10:20:30`.
 ///
 /// # Errors
 ///
-/// Where memory runs out. A beginning may have been put then.
+/// Where memory runs out. A beginning may have been appended then.
 pub fn push_time(out: &mut Vec<u8>, seconds: u64) -> Result<(), AllocError>
     ensures { OnOk result (out.new.items ≡ out.old.items ++ time_text seconds) }
 {

@@ -51,7 +51,7 @@ x -b => bad
 -x --version => bad
 ";
 
-// Parts that stand in the help.
+// Parts of the help.
 const HELP: &str =
     "Usage: aaset [OPTIONS] <NAME>...|-C |-b <DIR>|add FILE |replace FILE |remove FILE |\
     enforce NAME, complain NAME |disable NAME |undo [N], redo [N] |mark NAME |back NAME |\
@@ -77,7 +77,7 @@ fn push_word(line: &mut String, word: &str) -> Result<(), AllocError> {
     line.push_str(if word.is_empty() { "''" } else { word })
 }
 
-// A plan as a row writes it.
+// A plan as a row prints it.
 fn told(alloc: Global, plan: &Plan) -> Result<String, AllocError> {
     let mut line = String::from_str(
         alloc,

@@ -15,7 +15,7 @@ fn equal_patterns(alloc: Global, text: &[u8], count: usize) -> Result<Vec<Patter
     Ok(patterns)
 }
 
-// Has an automaton remember a path so many times. Whether it knows all of it then.
+// Has an automaton remember a path so many times. Whether all of it is remembered then.
 fn remembers(alloc: Global, automaton: &mut Automaton, path: &[u8], times: usize) -> bool {
     let mut is_known = false;
     for _ in 0..times {
@@ -35,7 +35,7 @@ fn finds(
     Ok(found.len() == count)
 }
 
-// Whether an automaton finds so many patterns for a path, before it remembers that and behind it.
+// Whether an automaton finds so many patterns for a path, before it remembers that and after.
 fn finds_twice(alloc: Global, automaton: &mut Automaton, count: usize) -> Result<bool, AllocError> {
     let is_found = finds(alloc, automaton, b"/a/c", count)?;
     let is_known = remembers(alloc, automaton, b"/a/c", 2);
@@ -62,7 +62,7 @@ fn row_of(alloc: Global, letter: u8, count: usize) -> Result<Vec<u8>, AllocError
     Ok(row)
 }
 
-// The automaton of five patterns, each a long row of a letter: a byte more of a row leads to a state more, and to no other.
+// The automaton of five patterns, each a long row of a letter: one byte more of a row leads to one state more, and to no other.
 fn automaton_of_rows(alloc: Global) -> Result<Automaton, AllocError> {
     let mut patterns = Vec::new(alloc);
     for letter in b'a'..=b'e' {
@@ -95,7 +95,7 @@ fn finds_row(
     finds(alloc, automaton, &row, count)
 }
 
-// Whether each row is found, and none that is a letter short.
+// Whether each row is found, and none that is one letter short.
 fn finds_rows(alloc: Global, automaton: &Automaton) -> Result<bool, AllocError> {
     for letter in b'a'..=b'e' {
         let is_found = finds_row(alloc, automaton, letter, 4_000, 1)?;

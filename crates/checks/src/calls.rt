@@ -1,5 +1,5 @@
-//! Calls of the libraries whose answers no row can tell: the copies of a profile and of a rule, the slots that may attach a path, the start of a program by
-//! one of whom the slot is known, what a question is answered as values, and the reading of a file by each language.
+//! Calls of the libraries whose answers no row can state: the copies of a profile and of a rule, the slots that may attach to a path, the start of a
+//! program by an asker whose slot is known, the answers to questions as values, and the reading of a file by each language.
 
 ghost use Rattle.std.specs.Prelude.{◌≡◌, true, IfSome};
 ghost use Rattle.aa_profile_data.specs.Conflicts.{profile_agrees};
@@ -65,7 +65,7 @@ fn a_rule_is_copied(rt: HostRuntime) {
     assert!(rt; copies_rule(rt.alloc()) == Some(true));
 }
 
-// Asks under what a program starts, again and again, so that its path is remembered.
+// Asks under which profile a program starts, again and again, so that its path is remembered.
 fn remember(manager: &mut Manager, path: &[u8]) {
     let question = Question::Exec {
         who: b"unconfined",
@@ -77,7 +77,7 @@ fn remember(manager: &mut Manager, path: &[u8]) {
     }
 }
 
-// Whether these slots may attach a path.
+// Whether these slots may attach to a path.
 fn are_attaching(alloc: Global, manager: &Manager, path: &[u8], slots: &[usize]) -> bool {
     let found = manager.policy_set().slots().attaching(alloc, path);
     match found {
@@ -86,7 +86,7 @@ fn are_attaching(alloc: Global, manager: &Manager, path: &[u8], slots: &[usize])
     }
 }
 
-// Every slot may attach a path, until it is kept beside them which do.
+// Every slot may attach to a path, until it is kept beside them which do.
 fn attach(alloc: Global) -> Option<bool> {
     let path = b"/usr/bin/y".as_slice();
     let mut manager = managed(
@@ -129,14 +129,14 @@ fn a_program_is_started_by_its_slot(rt: HostRuntime) {
     assert!(rt; starts(rt.alloc()) == Some(true));
 }
 
-// Whether an answer is this one, told so, and logged or not.
+// Whether an answer is this one, with this text, and logged or not.
 fn is_answer(found: &Answered, answer: Option<Answer>, text: &[u8], is_logged: bool) -> bool {
     found.answer == answer
         && found.text.as_slice() == text
         && found.logged.as_slice().is_empty() != is_logged
 }
 
-// Whether the words behind `ask` are answered so, without what is remembered and with it.
+// Whether the words after `ask` have this answer, without what is remembered and with it.
 fn is_answered(
     manager: &mut Manager,
     words: &[&[u8]],

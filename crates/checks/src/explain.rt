@@ -1,4 +1,4 @@
-//! Why requests are answered as they are: the calls whose findings no row tells.
+//! Why requests are answered as they are: the calls whose findings no row states.
 
 use crate::given::{first_wrong, managed};
 use aa_decide::{Entry, ExecTo, IndexedSlots, Request, find_loaded, find_named};
@@ -21,7 +21,7 @@ fn write(path: &[u8]) -> Request<'_> {
     }
 }
 
-// A rule that reads the path applies to its being written, and one denies it.
+// A rule that allows reading the path applies to a write, and one denies it.
 fn are_told(alloc: Global, rules: AskedRules<'_>) -> bool {
     match told_rules(alloc, rules, &write(b"/srv/x")) {
         Ok(found) => match found.as_slice() {
@@ -122,7 +122,7 @@ fn wrong_listed(alloc: Global, entry: &Entry) -> Option<&'static str> {
     first_wrong(&rows(alloc, AskedRules::Listed { audit, rules }))
 }
 
-// And of the same rules, as the automaton of their profile finds them.
+// What is wrong of the same rules, as the automaton of their profile finds them.
 fn wrong_loaded(alloc: Global, entry: &Entry) -> Option<&'static str> {
     let section = entry.ready().section(None);
     first_wrong(&rows(alloc, AskedRules::Loaded(section)))

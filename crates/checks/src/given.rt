@@ -1,4 +1,4 @@
-//! What tests hand in: files, the profiles that they spell, and managers of these.
+//! What tests hand in: files, their profiles, and managers of these.
 
 ghost use Rattle.std.specs.Prelude.{◌≡◌, true, IfSome};
 ghost use Rattle.std.specs.List.{list_all};
@@ -29,7 +29,7 @@ fn last_of(profiles: Vec<Profile>) -> Option<Profile>
     profiles.pop()
 }
 
-/// The last profile that a file spells, whose rules agree.
+/// The last profile of a file, whose rules agree.
 pub fn last_profile(alloc: Global, files: &Files, name: &[u8]) -> Option<Profile>
     ensures { IfSome result (λ profile. profile_agrees profile ≡ true) }
 {

@@ -1,6 +1,6 @@
 //! Tests that no row can state: of streams, readers and writers of the standard library that fail, runs over those of few bytes a call, the
-//! words of arguments and the whole program; of the libraries' calls, why requests are answered so, how much a manager keeps, automata of very many patterns and the visits that
-//! they take; and the examples of the families' pages.
+//! words of arguments and the whole program; of the libraries' calls, why requests are answered so, how much a manager keeps, automata of very many
+//! patterns and the visits that they take; and the examples of the families' pages.
 #![tactic(auto)]
 
 #[cfg(test)]

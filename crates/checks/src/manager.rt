@@ -49,14 +49,14 @@ fn mark_twice(manager: &mut Manager, files: &Files) -> Option<()> {
     manager.mark(b"second").ok()
 }
 
-// The ways to the marks leave the parts.
+// Going to the marks leaves the parts.
 fn go_to_marks(manager: &mut Manager) -> Option<u128> {
     manager.back(b"first").ok()?;
     manager.back(b"second").ok()?;
     Some(manager.kept())
 }
 
-// A change that is made at the first mark drops those of the change behind it, and the mark of that.
+// A change that is made at the first mark drops the changes after it, and the mark there.
 fn drop_second(manager: &mut Manager, files: &Files) -> Option<bool> {
     manager.back(b"first").ok()?;
     manager.remove(files, b"two").ok()?;

@@ -45,7 +45,7 @@ struct Row {
     status: u8,
 }
 
-// Whether the program answers as a row tells.
+// Whether the program answers as a row says.
 fn is_answered(alloc: Global, row: Row) -> Result<bool, AllocError> {
     let mut words = Vec::new(alloc);
     for word in row.words {

@@ -30,7 +30,7 @@ fn answers_bytes(alloc: Global, count: usize, lines: u64, reads: u64) -> bool {
     outcome == Ok(want) && reader.ended() && reader.reads() == reads
 }
 
-// The replies that are written where a reader fails behind so many bytes.
+// The replies that are written where a reader fails after so many bytes.
 fn answers_until_the_fault(alloc: Global, count: usize, lines: usize) -> bool {
     let files = Files::new(alloc);
     let mut reader = FromRead::new(Undoing {

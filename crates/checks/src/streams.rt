@@ -42,7 +42,7 @@ fn counts_failed_reads() -> bool {
     first && second && source.reads() == 2 && source.failed()
 }
 
-// A sink writes behind what the writer holds.
+// A sink appends to what the writer holds.
 fn writes_behind(alloc: Global) -> bool {
     let Ok(held) = Vec::from_slice(alloc, b"a") else {
         return false;

@@ -8,7 +8,7 @@ use row_texts::{
 use std::alloc::Global;
 use std::str;
 
-// The pattern that a text reads as.
+// The pattern of a text.
 fn read(alloc: Global, text: &[u8]) -> Result<Pattern, RowError> {
     match Pattern::read(alloc, text) {
         Ok(pattern) => Ok(pattern),
@@ -16,7 +16,7 @@ fn read(alloc: Global, text: &[u8]) -> Result<Pattern, RowError> {
     }
 }
 
-// The patterns that some texts read as.
+// The patterns of some texts.
 fn read_all(alloc: Global, texts: &[Vec<u8>]) -> Result<Vec<Pattern>, RowError> {
     let mut patterns = Vec::new(alloc);
     for text in texts {
@@ -25,7 +25,7 @@ fn read_all(alloc: Global, texts: &[Vec<u8>]) -> Result<Vec<Pattern>, RowError> 
     Ok(patterns)
 }
 
-// Puts one more place behind an answer.
+// Appends one more place to an answer.
 fn put_place(answered: &mut Vec<u8>, place: usize) -> Result<(), RowError> {
     if !answered.is_empty() {
         answered.push(b',')?;
@@ -33,7 +33,7 @@ fn put_place(answered: &mut Vec<u8>, place: usize) -> Result<(), RowError> {
     put_number(answered, place)
 }
 
-// Puts `none` as an answer where there is no place.
+// Makes the answer `none` where it has no place.
 fn put_none(answered: &mut Vec<u8>) -> Result<(), RowError> {
     if answered.is_empty() {
         put_word(answered, b"none")
@@ -42,7 +42,7 @@ fn put_none(answered: &mut Vec<u8>) -> Result<(), RowError> {
     }
 }
 
-// Puts places as an answer.
+// Appends places to an answer.
 fn put_places(answered: &mut Vec<u8>, places: &[usize]) -> Result<(), RowError> {
     for place in places {
         put_place(answered, *place)?;
@@ -50,7 +50,7 @@ fn put_places(answered: &mut Vec<u8>, places: &[usize]) -> Result<(), RowError> 
     put_none(answered)
 }
 
-// Puts the places of the patterns that match a path as an answer, each of them asked by itself.
+// Appends the places of the patterns that match a path to an answer, each of them asked by itself.
 fn put_matches(answered: &mut Vec<u8>, patterns: &[Pattern], path: &[u8]) -> Result<(), RowError> {
     for (place, pattern) in patterns.iter().enumerate() {
         if pattern.matches(path) {
@@ -115,7 +115,7 @@ fn ask_matching(
     ask_remembering(tally, &mut automaton, path, answer)
 }
 
-// The automaton of the patterns that some texts read as.
+// The automaton of the patterns of some texts.
 fn automaton_of(alloc: Global, texts: &[Vec<u8>]) -> Result<Automaton, RowError> {
     let patterns = read_all(alloc, texts)?;
     Ok(Automaton::build(alloc, &patterns)?)
@@ -129,7 +129,7 @@ fn ask_states(tally: &mut Tally, number: &[u8], texts: &[Vec<u8>]) -> Result<(),
     tally.settle("states")
 }
 
-// The number that a word tells.
+// The number of a word.
 fn number_in(word: &[u8]) -> Result<usize, RowError> {
     match str::from_utf8(word) {
         Ok(text) => number_of(text),

@@ -8,7 +8,7 @@ use std::rt::{Clock, Env, Files};
 use std::time::Instant;
 use std::{env, fs, str};
 
-// The patterns that lines read as; other lines are passed over.
+// The patterns of lines; other lines are passed over.
 fn patterns_in(alloc: Global, text: &str) -> Result<Vec<Pattern>, AllocError> {
     let mut patterns = Vec::new(alloc);
     for line in text.lines() {
@@ -28,7 +28,7 @@ fn bytes_of(patterns: &[Pattern]) -> usize {
     bytes
 }
 
-// Asks an automaton for each path: how many matches there were.
+// Asks an automaton for each path: returns how many matches there were.
 fn ask_automaton(
     alloc: Global,
     automaton: &Automaton,
@@ -43,7 +43,7 @@ fn ask_automaton(
     Ok(matches)
 }
 
-// Asks each pattern by itself for a path: how many matches there were.
+// Asks each pattern by itself for a path: returns how many matches there were.
 fn ask_each(patterns: &[Pattern], path: &str) -> usize {
     let mut matches: usize = 0;
     for pattern in patterns {
@@ -52,7 +52,7 @@ fn ask_each(patterns: &[Pattern], path: &str) -> usize {
     matches
 }
 
-// The same for all paths.
+// Asks each pattern by itself for all paths: returns how many matches there were.
 fn ask_patterns(patterns: &[Pattern], paths: &str) -> usize {
     let mut matches: usize = 0;
     for path in paths.lines() {
@@ -61,7 +61,7 @@ fn ask_patterns(patterns: &[Pattern], paths: &str) -> usize {
     matches
 }
 
-// How much work all paths are, told in a line.
+// The line on how much work all paths are.
 fn work_of(alloc: Global, patterns: &[Pattern], paths: &str) -> Result<String, AllocError> {
     let automaton = Automaton::build(alloc, patterns)?;
     let mut steps = Steps::new();
@@ -73,7 +73,7 @@ fn work_of(alloc: Global, patterns: &[Pattern], paths: &str) -> Result<String, A
     )
 }
 
-// The text that bytes are.
+// The text of bytes.
 fn text_of(bytes: &[u8]) -> Result<&str, RowError> {
     match str::from_utf8(bytes) {
         Ok(text) => Ok(text),

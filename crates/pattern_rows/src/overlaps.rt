@@ -29,7 +29,7 @@ fn ask_text(
     }
 }
 
-// Asks with which texts' patterns one overlaps: with those behind `yes`, and not with those behind `no`.
+// Asks with which texts' patterns one overlaps: with those after `yes`, and not with those after `no`.
 fn ask_texts(tally: &mut Tally, pattern: &Pattern, words: &[Vec<u8>]) -> Result<(), RowError> {
     let mut wanted = b"yes".as_slice();
     for word in words {

@@ -7,8 +7,8 @@ use row_texts::{
     words_of, yes_or_no,
 };
 
-// What is told of a pattern but its matches: whether it is exact, how many items stand before the first that isn't a byte for itself, and
-// its text.
+// Appends the properties of a pattern except its matches: whether it is exact, how many items come before the first that isn't a byte for itself,
+// and its text.
 fn put_pattern(answered: &mut Vec<u8>, pattern: &Pattern) -> Result<(), RowError> {
     put_word(answered, yes_or_no(pattern.is_exact()))?;
     put_number_word(answered, pattern.literal_prefix())?;
@@ -27,7 +27,7 @@ fn ask_text(
     tally.compare("matches of a copy", wanted, yes_or_no(copy.matches(text)))
 }
 
-// Asks which texts a pattern and its copy match: those behind `yes`, and not those behind `no`.
+// Asks which texts a pattern and its copy match: those after `yes`, and not those after `no`.
 fn ask_texts(
     tally: &mut Tally,
     pattern: &Pattern,
@@ -82,7 +82,7 @@ fn ask_match(tally: &mut Tally, text: &[u8], words: &[Vec<u8>]) -> Result<(), Ro
     }
 }
 
-// Puts what is told of a text behind bytes: of the pattern that it reads as, or why it is none.
+// Appends the properties of a text's pattern to the answer, or why it is none.
 fn put_reading(tally: &mut Tally, text: &[u8]) -> Result<(), RowError> {
     match Pattern::read(tally.alloc(), text) {
         Ok(pattern) => put_pattern(&mut tally.answered, &pattern),
@@ -144,7 +144,7 @@ fn spelled(number: usize) -> [u8; 5] {
     text
 }
 
-// Puts a text behind others where a pattern matches it.
+// Appends a text to an answer where a pattern matches it.
 fn put_matched(answered: &mut Vec<u8>, pattern: &Pattern, text: &[u8]) -> Result<(), RowError> {
     if pattern.matches(text) {
         put_word(answered, text)
@@ -153,7 +153,7 @@ fn put_matched(answered: &mut Vec<u8>, pattern: &Pattern, text: &[u8]) -> Result
     }
 }
 
-// Puts the texts of so many letters that a pattern matches behind others.
+// Appends the texts of so many letters that a pattern matches to an answer.
 fn put_matching(
     answered: &mut Vec<u8>,
     pattern: &Pattern,
@@ -167,7 +167,7 @@ fn put_matching(
     Ok(())
 }
 
-// Puts the texts of at most five letters that a pattern matches behind others.
+// Appends the texts of at most five letters that a pattern matches to an answer.
 fn put_short_texts(answered: &mut Vec<u8>, pattern: &Pattern) -> Result<(), RowError> {
     for (length, count) in [1, 4, 16, 64, 256, 1_024].iter().enumerate() {
         put_matching(answered, pattern, length, *count)?;
@@ -175,7 +175,7 @@ fn put_short_texts(answered: &mut Vec<u8>, pattern: &Pattern) -> Result<(), RowE
     Ok(())
 }
 
-// Puts which of all short texts match behind bytes, or why a text is no pattern.
+// Appends which of all short texts match to the answer, or why a text is no pattern.
 fn put_only(tally: &mut Tally, text: &[u8]) -> Result<(), RowError> {
     match Pattern::read(tally.alloc(), text) {
         Ok(pattern) => put_short_texts(&mut tally.answered, &pattern),

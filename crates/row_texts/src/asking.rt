@@ -20,7 +20,7 @@ pub trait Asks {
     ) -> Result<(), RowError>;
 }
 
-// The name of a file of rows without its folder and what stands behind its first dot.
+// The name of a file of rows without its folder and what follows its first dot.
 fn kind_of(name: &str) -> &str {
     let file = match name.rsplit_once('/') {
         Some((_, file)) => file,
@@ -74,7 +74,7 @@ fn print_tally<R: Print>(rt: &R, name: &str, tally: &Tally) -> Result<()> {
     Ok(())
 }
 
-// Asks all rows of a file's text: how many were answered otherwise.
+// Asks all rows of a file's text: returns how many were answered otherwise.
 fn ask_rows<R: Print + AllocGlobal, A: Asks>(
     rt: &R,
     asks: &A,
@@ -88,7 +88,7 @@ fn ask_rows<R: Print + AllocGlobal, A: Asks>(
     Ok(tally.wrong())
 }
 
-// Asks all rows of a file: how many were answered otherwise.
+// Asks all rows of a file: returns how many were answered otherwise.
 fn ask_file<R: Files + Print + AllocGlobal, A: Asks>(
     rt: &R,
     asks: &A,

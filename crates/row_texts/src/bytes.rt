@@ -4,14 +4,14 @@ use crate::lines::split_at;
 use crate::row_error::RowError;
 use crate::words::number_of;
 
-/// Puts a number behind bytes. The one error is that of memory.
+/// Appends a number to bytes. The one error is that of memory.
 pub fn put_number(bytes: &mut Vec<u8>, number: usize) -> Result<(), RowError> {
     let digits = number.to_string(*bytes.allocator())?;
     bytes.extend_from_slice(digits.as_str().as_bytes())?;
     Ok(())
 }
 
-// Puts a number behind bytes, and what follows it.
+// Appends a number to bytes, and the text that follows it.
 fn put_numbered(bytes: &mut Vec<u8>, number: usize, behind: &str) -> Result<(), RowError> {
     put_number(bytes, number)?;
     bytes.extend_from_slice(behind.as_bytes())?;
@@ -29,7 +29,7 @@ fn split_byte(text: &str) -> Result<(u8, &str), RowError> {
     }
 }
 
-// Puts the byte that a text begins with behind bytes, and what follows it.
+// Appends the byte with which a text begins to bytes, and the text that follows it.
 fn put_byte(bytes: &mut Vec<u8>, text: &str) -> Result<(), RowError> {
     let (byte, behind) = split_byte(text)?;
     bytes.push(byte)?;
@@ -37,7 +37,7 @@ fn put_byte(bytes: &mut Vec<u8>, text: &str) -> Result<(), RowError> {
     Ok(())
 }
 
-// Puts what a sign stands for behind bytes, and what follows it. `#` is the number of the turn, `+` the number after it.
+// Appends what a sign stands for to bytes, and the text that follows it. `#` is the number of the turn, `+` the number after it.
 fn put_sign(bytes: &mut Vec<u8>, piece: &str, turn: usize) -> Result<(), RowError> {
     if let Some(behind) = piece.strip_prefix('#') {
         return put_numbered(bytes, turn, behind);
@@ -48,7 +48,7 @@ fn put_sign(bytes: &mut Vec<u8>, piece: &str, turn: usize) -> Result<(), RowErro
     }
 }
 
-// Puts a piece of a text behind bytes: the first as it is, each other behind the `%` of a sign.
+// Appends a piece of a text to bytes: the first as it is, each other after the `%` of a sign.
 fn put_piece(
     bytes: &mut Vec<u8>,
     piece: &str,
@@ -62,7 +62,7 @@ fn put_piece(
     Ok(())
 }
 
-// Puts a text without repetitions behind bytes.
+// Appends a text without repetitions to bytes.
 fn put_plain(bytes: &mut Vec<u8>, text: &str, turn: usize) -> Result<(), RowError> {
     for (at, piece) in text.split('%').enumerate() {
         put_piece(bytes, piece, turn, at == 0)?;
@@ -70,7 +70,7 @@ fn put_plain(bytes: &mut Vec<u8>, text: &str, turn: usize) -> Result<(), RowErro
     Ok(())
 }
 
-// Puts a text behind bytes so many times.
+// Appends a text to bytes so many times.
 fn put_times(bytes: &mut Vec<u8>, text: &str, times: usize) -> Result<(), RowError> {
     for turn in 0..times {
         put_plain(bytes, text, turn)?;
@@ -78,7 +78,7 @@ fn put_times(bytes: &mut Vec<u8>, text: &str, times: usize) -> Result<(), RowErr
     Ok(())
 }
 
-// Puts `TEXT*TIMES` behind bytes.
+// Appends what `TEXT*TIMES` stands for to bytes.
 fn put_repeated(bytes: &mut Vec<u8>, inside: &str) -> Result<(), RowError> {
     match inside.rsplit_once('*') {
         Some((text, times)) => put_times(bytes, text, number_of(times)?),
@@ -86,14 +86,14 @@ fn put_repeated(bytes: &mut Vec<u8>, inside: &str) -> Result<(), RowError> {
     }
 }
 
-// Puts `TEXT*TIMES)` behind bytes, and what follows it.
+// Appends what `TEXT*TIMES)` stands for to bytes, and the text that follows it.
 fn put_repetition(bytes: &mut Vec<u8>, piece: &str, turn: usize) -> Result<(), RowError> {
     let (inside, behind) = split_at(piece, ")")?;
     put_repeated(bytes, inside)?;
     put_plain(bytes, behind, turn)
 }
 
-// Puts a piece of a text behind bytes: the first as it is, each other behind the `%(` of a repetition.
+// Appends a piece of a text to bytes: the first as it is, each other after the `%(` of a repetition.
 fn put_long_piece(
     bytes: &mut Vec<u8>,
     piece: &str,
@@ -107,9 +107,8 @@ fn put_long_piece(
     }
 }
 
-/// Puts what a text of a row stands for behind bytes: `%XX` is a byte, `%(TEXT*TIMES)` is a text so many times, `%#` the number of
-/// the turn, from 0 on, and `%+` the number after it. A repetition that isn't closed or has no number can't be read, and neither can
-/// another sign.
+/// Appends what a text of a row stands for to bytes: `%XX` is a byte, `%(TEXT*TIMES)` is a text so many times, `%#` the number of the turn, from 0
+/// on, and `%+` the number after it. A repetition that isn't closed or has no number can't be read, and neither can another sign.
 pub fn put_text(bytes: &mut Vec<u8>, text: &str, turn: usize) -> Result<(), RowError> {
     for (at, piece) in text.split("%(").enumerate() {
         put_long_piece(bytes, piece, turn, at == 0)?;

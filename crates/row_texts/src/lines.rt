@@ -3,7 +3,7 @@
 use crate::row_error::RowError;
 use crate::words::number_of;
 
-/// What stands before and behind the first of these signs. A text without them can't be read.
+/// The texts before and after the first of these signs. A text without them can't be read.
 pub fn split_at<'a>(text: &'a str, signs: &str) -> Result<(&'a str, &'a str), RowError> {
     match text.split_once(signs) {
         Some(parts) => Ok(parts),
@@ -19,7 +19,7 @@ pub fn question_of(line: &str) -> (&str, &str) {
     }
 }
 
-/// How often a line is done, and the line: `repeat TIMES` may stand before it.
+/// How often a line is done, and the line: it may begin with `repeat TIMES`.
 pub fn turns_of(line: &str) -> Result<(usize, &str), RowError> {
     match line.strip_prefix("repeat ") {
         Some(rest) => {

@@ -6,7 +6,7 @@ use crate::words::{put_words, word_bytes};
 use aa_text_files::Files;
 use std::alloc::Global;
 
-/// A line of a paragraph, with the bytes that stand below it behind `|` and `.`.
+/// A line of a paragraph, with the bytes below it after `|` and `.`.
 #[derive(Drop)]
 pub struct Part<'a> {
     /// The number of the line, from 1 on.
@@ -33,14 +33,14 @@ fn push_part<'a>(parts: &mut Vec<Part<'a>>, line: usize, head: &'a str) -> Resul
     Ok(())
 }
 
-// Puts what a text of a row stands for, and what ends it, behind bytes.
+// Appends what a text of a row stands for, and its ending, to bytes.
 fn put_ended(bytes: &mut Vec<u8>, text: &str, end: &[u8]) -> Result<(), RowError> {
     put_text(bytes, text, 0)?;
     bytes.extend_from_slice(end)?;
     Ok(())
 }
 
-// Puts a line of bytes behind those of the last part. A first part has them where there is none.
+// Appends a line of bytes to those of the last part. A first part has them where there is none.
 fn put_bytes(
     parts: &mut Vec<Part<'_>>,
     line: usize,
@@ -56,7 +56,7 @@ fn put_bytes(
     }
 }
 
-// Puts a line behind the parts of a paragraph.
+// Appends a line to the parts of a paragraph.
 fn put_line<'a>(parts: &mut Vec<Part<'a>>, number: usize, line: &'a str) -> Result<(), RowError> {
     if line.is_empty() || line.starts_with('#') {
         return Ok(());
@@ -115,14 +115,15 @@ pub fn take_files(alloc: Global, files: &mut Files, parts: &[Part<'_>]) -> Resul
     Ok(())
 }
 
-// Puts the words of a line behind bytes, and a line feed.
+// Appends the words of a line to bytes, and a line feed.
 fn put_row_line(bytes: &mut Vec<u8>, line: &str) -> Result<(), RowError> {
     put_words(bytes, line, 0)?;
     bytes.extend_from_slice(b"\n")?;
     Ok(())
 }
 
-/// Puts the lines of parts behind bytes, but for those that name files and what is asked: a blank behind each word, and a line feed behind each line.
+/// Appends the lines of parts to bytes, without those that name files and the question: each word is followed by a blank, and each line by a line
+/// feed.
 pub fn put_lines(bytes: &mut Vec<u8>, parts: &[Part<'_>]) -> Result<(), RowError> {
     for part in parts {
         if !part.head.starts_with("file ") && !part.head.starts_with("splice ") {
@@ -132,8 +133,7 @@ pub fn put_lines(bytes: &mut Vec<u8>, parts: &[Part<'_>]) -> Result<(), RowError
     Ok(())
 }
 
-/// What stands behind this word in the first line that begins with it, and the bytes below that line. Parts without such a line can't be
-/// read.
+/// The text after this word in the first line that begins with it, and the bytes below that line. Parts without such a line can't be read.
 pub fn find<'a, 'b>(parts: &'a [Part<'b>], word: &str) -> Result<(&'b str, &'a [u8]), RowError> {
     for part in parts {
         if let Some(rest) = part.head.strip_prefix(word) {

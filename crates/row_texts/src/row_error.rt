@@ -37,7 +37,7 @@ pub enum RowError {
     NoSuchStream,
     /// A number was expected.
     NotANumber,
-    /// The row has one word alone.
+    /// The row has only one word.
     OneWord,
     /// The output is shorter than its front is to be.
     ShortOutput,

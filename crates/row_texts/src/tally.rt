@@ -26,21 +26,21 @@ fn hidden() -> AsciiSet {
     CONTROLS.add(b'%')
 }
 
-// Puts bytes behind a text, as a row would have them, and a line feed.
+// Appends bytes to a text, as a row would have them, and a line feed.
 fn put_shown(text: &mut String, bytes: &[u8]) -> Result<(), RowError> {
     percent_encode(bytes, hidden()).append_to(text)?;
     text.push_str("\n")?;
     Ok(())
 }
 
-// Puts the line of a row behind a text, and what was asked.
+// Appends the line of a row to a text, and what was asked.
 fn put_asked(text: &mut String, alloc: Global, line: usize, what: &str) -> Result<(), RowError> {
     let line = format!(in alloc; "line {line}: {what}\n")?;
     text.push_str(line.as_str())?;
     Ok(())
 }
 
-// Puts what was wanted and answered behind a text.
+// Appends what was wanted and answered to a text.
 fn put_answers(text: &mut String, wanted: &[u8], answered: &[u8]) -> Result<(), RowError> {
     text.push_str("  wanted ")?;
     put_shown(text, wanted)?;

@@ -1,4 +1,4 @@
-//! Words of rows and of answers. In both a blank stands behind each word.
+//! Words of rows and of answers. In both each word is followed by a blank.
 
 use crate::bytes::{put_number, put_text};
 use crate::row_error::RowError;
@@ -12,14 +12,14 @@ pub fn number_of(text: &str) -> Result<usize, RowError> {
     }
 }
 
-/// Puts a word and a blank behind bytes. The one error is that of memory.
+/// Appends a word and a blank to bytes. The one error is that of memory.
 pub fn put_word(bytes: &mut Vec<u8>, word: &[u8]) -> Result<(), RowError> {
     bytes.extend_from_slice(word)?;
     bytes.extend_from_slice(b" ")?;
     Ok(())
 }
 
-/// Puts a few words behind bytes, with a blank behind each. The one error is that of memory.
+/// Appends a few words to bytes, each followed by a blank. The one error is that of memory.
 pub fn put_each(bytes: &mut Vec<u8>, words: &[&[u8]]) -> Result<(), RowError> {
     for word in words {
         put_word(bytes, word)?;
@@ -27,7 +27,7 @@ pub fn put_each(bytes: &mut Vec<u8>, words: &[&[u8]]) -> Result<(), RowError> {
     Ok(())
 }
 
-/// Puts words behind bytes, with a blank behind each. The one error is that of memory.
+/// Appends words to bytes, each followed by a blank. The one error is that of memory.
 pub fn put_all(bytes: &mut Vec<u8>, words: &[Vec<u8>]) -> Result<(), RowError> {
     for word in words {
         put_word(bytes, word)?;
@@ -35,14 +35,14 @@ pub fn put_all(bytes: &mut Vec<u8>, words: &[Vec<u8>]) -> Result<(), RowError> {
     Ok(())
 }
 
-/// Puts a number and a blank behind bytes. The one error is that of memory.
+/// Appends a number and a blank to bytes. The one error is that of memory.
 pub fn put_number_word(bytes: &mut Vec<u8>, number: usize) -> Result<(), RowError> {
     put_number(bytes, number)?;
     bytes.extend_from_slice(b" ")?;
     Ok(())
 }
 
-// Puts what a word of a row stands for behind bytes. `""` is no byte.
+// Appends what a word of a row stands for to bytes. `""` is no byte.
 fn put_row_word(bytes: &mut Vec<u8>, word: &str, turn: usize) -> Result<(), RowError> {
     if word == "\"\"" {
         return Ok(());
@@ -57,7 +57,7 @@ pub fn word_bytes(alloc: Global, word: &str, turn: usize) -> Result<Vec<u8>, Row
     Ok(bytes)
 }
 
-// Puts the bytes that a word stands for behind those of others.
+// Appends the bytes that a word stands for to those of other words.
 fn push_word(words: &mut Vec<Vec<u8>>, word: &str, turn: usize) -> Result<(), RowError> {
     let bytes = word_bytes(*words.allocator(), word, turn)?;
     words.push(bytes)?;
@@ -73,14 +73,14 @@ pub fn words_of(alloc: Global, line: &str, turn: usize) -> Result<Vec<Vec<u8>>, 
     Ok(words)
 }
 
-// Puts what a word of a row stands for behind bytes, and a blank.
+// Appends what a word of a row stands for to bytes, and a blank.
 fn put_word_of_row(bytes: &mut Vec<u8>, word: &str, turn: usize) -> Result<(), RowError> {
     put_row_word(bytes, word, turn)?;
     bytes.extend_from_slice(b" ")?;
     Ok(())
 }
 
-/// Puts what the words of a line stand for behind bytes, and a blank behind each.
+/// Appends what the words of a line stand for to bytes, each followed by a blank.
 pub fn put_words(bytes: &mut Vec<u8>, line: &str, turn: usize) -> Result<(), RowError> {
     for word in line.split_whitespace() {
         put_word_of_row(bytes, word, turn)?;

@@ -45,7 +45,7 @@ fn ask_two_pieces(
     ask_pieces(tally, files, whole, calls)
 }
 
-// Runs with a reader that fails behind these bytes of the input: the whole lines of them are answered.
+// Runs with a reader that fails after these bytes of the input: the whole lines of them are answered.
 fn ask_front(
     tally: &mut Tally,
     files: &Files,
@@ -79,7 +79,7 @@ fn ask_reader(
     ask_front(tally, files, whole, whole.input, ends)
 }
 
-// Runs with a writer that has room for so many bytes, and takes nothing behind them.
+// Runs with a writer that has room for so many bytes, and takes nothing after them.
 fn ask_full(
     tally: &mut Tally,
     files: &Files,

@@ -107,8 +107,8 @@ fn reads_of(number: usize) -> Result<u32, RowError> {
     }
 }
 
-/// `STREAM NUMBER of SIZE written COUNT`: runs with a stream that fails at the call of this number, or with so many reads. What is
-/// written is a front of the output, and the run ends with a fault.
+/// `STREAM NUMBER of SIZE written COUNT`: runs with a stream that fails at the call of this number, or with so many reads. A prefix of the output is
+/// written, and the run ends with a fault.
 pub fn ask_failing(
     tally: &mut Tally,
     files: &Files,

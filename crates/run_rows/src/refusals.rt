@@ -110,7 +110,7 @@ fn grammar_refusal(at: usize) -> Option<Described> {
     Some((refusal.number(), refusal.name()))
 }
 
-// The refusal of a file so many behind the first: ten of patterns, ten of its text, sixteen of its grammar, and its own.
+// The refusal of a file by its index: ten of patterns, ten of its text, sixteen of its grammar, and its own.
 fn file_refusal(at: usize) -> Option<ProfileRefusal> {
     match at {
         0..=9 => Some(ProfileRefusal::from(*PATTERN_ERRORS.get(at)?)),
@@ -123,7 +123,7 @@ fn file_refusal(at: usize) -> Option<ProfileRefusal> {
     }
 }
 
-// The refusal of a command so many behind the first: those of a file, and then its own.
+// The refusal of a command by its index: those of a file, and then its own.
 fn command_refusal(at: usize) -> Option<RefusalKind> {
     match file_refusal(at) {
         Some(refusal) => Some(RefusalKind::from(refusal)),
@@ -139,7 +139,7 @@ fn refusal(at: usize) -> Option<Described> {
     Some((refusal.number(), refusal.name()))
 }
 
-// The number and the name of the variant so many behind a type's first.
+// The number and the name of a type's variant by its index.
 fn described(kind: &str, at: usize) -> Option<Described> {
     match kind {
         "PatternError" => pattern_error(at),
@@ -160,14 +160,14 @@ fn put_printed(answered: &mut Vec<u8>, refusal: CutRefusal) -> Result<(), RowErr
     Ok(())
 }
 
-// Puts the number and the name of a variant behind bytes.
+// Appends the number and the name of a variant to bytes.
 fn put_described(answered: &mut Vec<u8>, (number, name): Described) -> Result<(), RowError> {
     put_number_word(answered, number as usize)?;
     answered.extend_from_slice(name.as_bytes())?;
     Ok(())
 }
 
-// Puts what is told of the variant so many behind a type's first behind bytes.
+// Appends the number and the name of a type's variant by its index to bytes.
 fn put_answered(answered: &mut Vec<u8>, kind: &str, at: usize) -> Result<(), RowError> {
     match described(kind, at) {
         Some(described) => put_described(answered, described)?,
@@ -179,7 +179,7 @@ fn put_answered(answered: &mut Vec<u8>, kind: &str, at: usize) -> Result<(), Row
     }
 }
 
-// Asks for the number and the name of the variant so many behind a type's first.
+// Asks for the number and the name of a type's variant by its index.
 fn ask_line(tally: &mut Tally, kind: &str, at: usize, line: &str) -> Result<(), RowError> {
     tally.wanted.extend_from_slice(line.as_bytes())?;
     put_answered(&mut tally.answered, kind, at)?;

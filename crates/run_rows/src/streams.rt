@@ -92,7 +92,7 @@ pub struct Takes {
 }
 
 impl Takes {
-    /// A sink behind these bytes that has not been written to.
+    /// A sink with these bytes that has not been written to.
     pub fn new(written: Vec<u8>, calls: Calls) -> Self
         ensures failed { ⟦<Takes as Sink>⟧.failed result ≡ false }
     {

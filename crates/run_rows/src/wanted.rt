@@ -40,12 +40,12 @@ pub fn read_wanted<'a>(parts: &'a [Part<'_>]) -> Result<Wanted<'a>, RowError> {
     })
 }
 
-// Puts a count behind bytes.
+// Appends a count to bytes.
 fn put_count(bytes: &mut Vec<u8>, count: u64) -> Result<(), RowError> {
     put_number(bytes, count as usize)
 }
 
-// Puts how many commands were accepted and how many refused behind bytes.
+// Appends how many commands were accepted and how many refused to bytes.
 fn put_summary(bytes: &mut Vec<u8>, summary: Summary) -> Result<(), RowError> {
     put_count(bytes, summary.accepted)?;
     bytes.extend_from_slice(b" ")?;
@@ -61,7 +61,7 @@ fn fault_word(fault: RunFault) -> &'static [u8] {
     }
 }
 
-// Puts how a run ended behind bytes, as rows say it.
+// Appends how a run ended to bytes, as rows write it.
 fn put_end(bytes: &mut Vec<u8>, outcome: Result<Summary, RunFault>) -> Result<(), RowError> {
     match outcome {
         Ok(summary) => put_summary(bytes, summary),

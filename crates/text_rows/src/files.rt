@@ -54,7 +54,7 @@ fn put_name(answered: &mut Vec<u8>, files: &Files, place: &str) -> Result<(), Ro
     put_word(answered, files.name(number_of(place)?).unwrap_or(b"none"))
 }
 
-// The answer to a question, a blank behind each of its words.
+// Appends the answer to a question, each of its words followed by a blank.
 fn put_answered(answered: &mut Vec<u8>, files: &mut Files, question: &str) -> Result<(), RowError> {
     let (kind, rest) = split_at(question, " ")?;
     if kind == "name" {

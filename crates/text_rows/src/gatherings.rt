@@ -39,7 +39,7 @@ struct Disk<'a> {
 }
 
 impl<'a> Disk<'a> {
-    // The file of a line that names this path: `file PATH`, or `broken PATH` where a read behind its bytes fails.
+    // The file of a line that names this path: `file PATH`, or `broken PATH` where a read after its bytes fails.
     fn stored(&self, part: &'a Part<'a>, path: &str) -> Option<Stored<'a>> {
         let (kind, name) = part.head.split_once(' ')?;
         if name != path || (kind != "file" && kind != "broken") {
@@ -96,13 +96,13 @@ fn names_of(alloc: Global, words: &[Vec<u8>]) -> Result<Vec<String>, RowError> {
     Ok(names)
 }
 
-// Puts the name of what was taken behind an answer, and its bytes: `folder` where it has none.
+// Appends the name of what was taken to an answer, and its bytes: `folder` where it has none.
 fn put_file(answered: &mut Vec<u8>, files: &Files, name: &[u8]) -> Result<(), RowError> {
     put_word(answered, name)?;
     put_word(answered, files.bytes(name).unwrap_or(b"folder"))
 }
 
-// Puts all that was taken behind an answer.
+// Appends all that was taken to an answer.
 fn put_files(answered: &mut Vec<u8>, files: &Files) -> Result<(), RowError> {
     for place in 0..files.len() {
         put_file(answered, files, files.name(place).unwrap_or(b"none"))?;
@@ -110,7 +110,7 @@ fn put_files(answered: &mut Vec<u8>, files: &Files) -> Result<(), RowError> {
     Ok(())
 }
 
-// Puts what became of names behind an answer.
+// Appends what became of names to an answer.
 fn put_gathered(
     answered: &mut Vec<u8>,
     disk: &Disk<'_>,
@@ -126,7 +126,7 @@ fn put_gathered(
     }
 }
 
-// Puts the answer to `MOST FOLDER NAME..` behind others.
+// Appends the answer to `MOST FOLDER NAME..`.
 fn put_answered(
     answered: &mut Vec<u8>,
     parts: &[Part<'_>],

@@ -1,4 +1,4 @@
-//! Rows of a journal over a change of one's own: a number takes another's place.
+//! Rows of a journal over a change of one's own: a number replaces another.
 
 use aa_history::{Change, Journal, Short};
 use row_texts::{
@@ -7,7 +7,7 @@ use row_texts::{
 use std::alloc::AllocError;
 use std::mem;
 
-// The change to a number, which may find no memory.
+// The change to a number, for which memory may run out.
 #[derive(Drop)]
 struct To {
     number: u64,
@@ -61,7 +61,7 @@ impl Change<u64> for To {
 
 type Numbers = Journal<u64, To>;
 
-// Puts a change that comes back behind an answer.
+// Appends a change that is handed back to an answer.
 fn put_refused(answered: &mut Vec<u8>, change: &To) -> Result<(), RowError> {
     if change.finds_no_memory {
         put_word(answered, b"refused")?;
@@ -86,7 +86,7 @@ fn put_commit(
     }
 }
 
-// Puts what a way back or on answers behind others.
+// Appends the answer of an undo or redo to the others.
 fn put_way(answered: &mut Vec<u8>, way: Result<(), Short>) -> Result<(), RowError> {
     match way {
         Ok(()) => put_word(answered, b"ok"),
@@ -114,7 +114,7 @@ fn put_back(answered: &mut Vec<u8>, journal: &mut Numbers, name: &str) -> Result
     }
 }
 
-// Puts how many changes had been made at a mark behind others.
+// Appends how many changes had been made at a mark to the answer.
 fn put_marked(answered: &mut Vec<u8>, journal: &Numbers, name: &str) -> Result<(), RowError> {
     match journal.marked(name.as_bytes()) {
         Some(number) => put_number_word(answered, number),
@@ -122,7 +122,7 @@ fn put_marked(answered: &mut Vec<u8>, journal: &Numbers, name: &str) -> Result<(
     }
 }
 
-// Puts the answer to a question of two words behind others.
+// Appends the answer to a question of two words.
 fn put_answer(
     answered: &mut Vec<u8>,
     journal: &mut Numbers,
@@ -141,7 +141,7 @@ fn put_answer(
     }
 }
 
-// Puts where a journal is behind an answer: its number, how many changes are behind it and ahead of it, and how many parts it keeps.
+// Appends the state of a journal to an answer: its number, how many changes can be undone and redone, and how many parts it keeps.
 fn put_place(answered: &mut Vec<u8>, journal: &Numbers) -> Result<(), RowError> {
     put_number_word(answered, *journal.state() as usize)?;
     put_number_word(answered, journal.depth())?;

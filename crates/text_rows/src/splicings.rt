@@ -10,7 +10,7 @@ fn name_of(files: &Files, file: usize) -> &[u8] {
     files.name(file).unwrap_or(b"no file")
 }
 
-// Puts the line of a token behind others.
+// Appends the line of a token to an answer.
 fn put_token(answered: &mut Vec<u8>, files: &Files, token: &Spliced<'_>) -> Result<(), RowError> {
     let name = name_of(files, token.file);
     put_each(answered, &[b"token".as_slice(), name, token.token.text])?;
@@ -19,7 +19,7 @@ fn put_token(answered: &mut Vec<u8>, files: &Files, token: &Spliced<'_>) -> Resu
     Ok(())
 }
 
-// Puts the line of a refusal behind others.
+// Appends the line of a refusal to an answer.
 fn put_refusal(answered: &mut Vec<u8>, files: &Files, error: TextError) -> Result<(), RowError> {
     put_each(answered, &[b"refused".as_slice(), error.name().as_bytes()])?;
     if let Some(place) = error.place {
@@ -30,7 +30,7 @@ fn put_refusal(answered: &mut Vec<u8>, files: &Files, error: TextError) -> Resul
     Ok(())
 }
 
-// Puts the lines of tokens behind others.
+// Appends the lines of tokens to an answer.
 fn put_tokens(
     answered: &mut Vec<u8>,
     files: &Files,
@@ -42,7 +42,7 @@ fn put_tokens(
     Ok(())
 }
 
-// What is told of a file.
+// Appends the answer for a file.
 fn put_answer(answered: &mut Vec<u8>, files: &Files, name: &[u8]) -> Result<(), RowError> {
     match spliced(*answered.allocator(), files, name) {
         Ok(found) => put_tokens(answered, files, &found),
@@ -50,14 +50,14 @@ fn put_answer(answered: &mut Vec<u8>, files: &Files, name: &[u8]) -> Result<(), 
     }
 }
 
-// What is told of the file that a paragraph names.
+// Appends the answer for the file that a paragraph names.
 fn put_answered(answered: &mut Vec<u8>, files: &Files, parts: &[Part<'_>]) -> Result<(), RowError> {
     let (name, _) = find(parts, "splice ")?;
     let name = word_bytes(*answered.allocator(), name, 0)?;
     put_answer(answered, files, &name)
 }
 
-// Asks a row over its files, behind those that are common.
+// Asks a row over its files, after the common ones.
 fn ask_parts(
     tally: &mut Tally,
     files: &mut Files,

@@ -8,7 +8,7 @@ use row_texts::{
     words_of,
 };
 
-// Puts a number behind an answer.
+// Appends a number to an answer.
 fn put_number(answered: &mut Vec<u8>, number: Option<u8>) -> Result<(), RowError> {
     match number {
         Some(number) => put_number_word(answered, usize::from(number)),
@@ -16,7 +16,7 @@ fn put_number(answered: &mut Vec<u8>, number: Option<u8>) -> Result<(), RowError
     }
 }
 
-// Puts a name behind an answer.
+// Appends a name to an answer.
 fn put_name(answered: &mut Vec<u8>, name: Option<&str>) -> Result<(), RowError> {
     put_word(answered, name.unwrap_or("none").as_bytes())
 }
@@ -42,7 +42,7 @@ fn put_name_of(answered: &mut Vec<u8>, kind: &str, number: u8) -> Result<(), Row
     }
 }
 
-// The answer to a question, a blank behind it.
+// Appends the answer to a question, followed by a blank.
 fn put_answered(answered: &mut Vec<u8>, question: &str) -> Result<(), RowError> {
     let (kind, rest) = split_at(question, " ")?;
     if let "capability" | "domain" | "kind" = kind {

@@ -21,7 +21,7 @@ fn kind_word(kind: TokenKind) -> &'static str {
     }
 }
 
-// Puts the line of a token behind others.
+// Appends the line of a token to an answer.
 fn put_token(answered: &mut Vec<u8>, token: &Token<'_>) -> Result<(), RowError> {
     put_word(answered, kind_word(token.kind).as_bytes())?;
     put_word(answered, token.text)?;
@@ -31,7 +31,7 @@ fn put_token(answered: &mut Vec<u8>, token: &Token<'_>) -> Result<(), RowError> 
     Ok(())
 }
 
-// Puts the line of a fault behind others.
+// Appends the line of a fault to an answer.
 fn put_fault(answered: &mut Vec<u8>, fault: CutFault) -> Result<(), RowError> {
     put_each(answered, &[b"refused".as_slice(), fault.name().as_bytes()])?;
     if let Some(at) = fault.at {
@@ -41,7 +41,7 @@ fn put_fault(answered: &mut Vec<u8>, fault: CutFault) -> Result<(), RowError> {
     Ok(())
 }
 
-// Puts the lines of tokens behind others.
+// Appends the lines of tokens to an answer.
 fn put_tokens(answered: &mut Vec<u8>, found: &[Token<'_>]) -> Result<(), RowError> {
     for token in found {
         put_token(answered, token)?;
@@ -49,7 +49,7 @@ fn put_tokens(answered: &mut Vec<u8>, found: &[Token<'_>]) -> Result<(), RowErro
     Ok(())
 }
 
-// What is told of a text.
+// Appends the answer for a text.
 fn put_answer(answered: &mut Vec<u8>, source: &[u8]) -> Result<(), RowError> {
     match tokens(*answered.allocator(), source) {
         Ok(found) => put_tokens(answered, &found),

@@ -7,7 +7,7 @@ use row_texts::{
 };
 use std::alloc::Global;
 
-// Puts a refusal behind an answer. None has a place.
+// Appends a refusal to an answer. None has a place.
 fn put_refusal(answered: &mut Vec<u8>, error: TextError) -> Result<(), RowError> {
     put_word(answered, error.name().as_bytes())?;
     if error.place.is_some() {
@@ -16,7 +16,7 @@ fn put_refusal(answered: &mut Vec<u8>, error: TextError) -> Result<(), RowError>
     Ok(())
 }
 
-// Puts what a step answers behind an answer.
+// Appends the answer of a step.
 fn put_step(answered: &mut Vec<u8>, answer: Result<(), TextError>) -> Result<(), RowError> {
     match answer {
         Ok(()) => put_word(answered, b"ok"),
@@ -24,7 +24,7 @@ fn put_step(answered: &mut Vec<u8>, answer: Result<(), TextError>) -> Result<(),
     }
 }
 
-// Puts a count behind an answer.
+// Appends a count to an answer.
 fn put_count(answered: &mut Vec<u8>, answer: Result<usize, TextError>) -> Result<(), RowError> {
     match answer {
         Ok(count) => put_number_word(answered, count),
@@ -32,7 +32,7 @@ fn put_count(answered: &mut Vec<u8>, answer: Result<usize, TextError>) -> Result
     }
 }
 
-// Puts the expansions of a text behind an answer.
+// Appends the expansions of a text to an answer.
 fn put_expansions(
     answered: &mut Vec<u8>,
     answer: Result<Vec<Vec<u8>>, TextError>,
@@ -43,7 +43,7 @@ fn put_expansions(
     }
 }
 
-// Puts a place behind an answer.
+// Appends a place to an answer.
 fn put_place(
     answered: &mut Vec<u8>,
     answer: Result<Option<usize>, TextError>,
@@ -105,7 +105,7 @@ fn put_answer(
     }
 }
 
-// What a table answers, one step behind the other: behind `#` a word is a text to count, and without it one to expand.
+// Appends the answers of a table, one step after the other: after `#` a word is a text to count, and without it one to expand.
 fn put_steps(
     answered: &mut Vec<u8>,
     variables: &Variables,
@@ -142,7 +142,7 @@ fn put_words_answer(
     put_answer(answered, variables, kind, first)
 }
 
-// The answer to a question, a blank behind each of its words.
+// Appends the answer to a question, each of its words followed by a blank.
 fn put_answered(
     answered: &mut Vec<u8>,
     variables: &mut Variables,

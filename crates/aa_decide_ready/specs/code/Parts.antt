@@ -1,4 +1,4 @@
--- What is made ready of a profile and of each of its children: automata, and where file rules stand.
+-- What is made ready of a profile and of each of its children: automata, and the indexes of file rules.
 use Rattle.std.specs.Prelude.{◌≡◌, ℕ, List, [], ◌∷◌, IfSome, Option}
 use Rattle.aa_glob.specs.Automata.{IsAutomatonOf}
 use Rattle.aa_profile_data.specs.declared.profile.Child.{Child}
@@ -10,12 +10,12 @@ use Rattle.aa_decide_ready.specs.declared.part.FileRules.{FileRules}
 use Rattle.aa_decide_ready.specs.declared.part.Part.{Part}
 use Rattle.aa_profile_data.specs.FileRules.{places_from, file_patterns}
 
--- this was made of the file rules among some
+-- this was made of the file rules among some rules
 pub record AreFileRulesOf (made : FileRules) (rules : List Rule) : Type 0 where
   pub automaton : IsAutomatonOf made.automaton (file_patterns rules)
   pub places : made.places ≡ places_from 0 rules
 
--- a part was made of these rules and attachments: of the rules nothing may be made yet
+-- a part was made of these rules and attachments: the rules may not have been made ready yet
 pub record IsPartOf (part : Part) (rules : List Rule) (attachments : List (List ℕ)) : Type 0 where
   pub files : IfSome part.files (λ made. AreFileRulesOf made rules)
   pub attached : IsAutomatonOf part.attachments attachments
@@ -31,10 +31,10 @@ ArePartsOf [] (child ∷ children) = ⊥
 ArePartsOf (part ∷ parts) [] = ⊥
 ArePartsOf (part ∷ parts) (child ∷ children) = IsPartOf part child.rules child.attachments × ArePartsOf parts children
 
--- neither the profile nor a child or hat stands at a place, so there are no rules and attachments
+-- the profile has no child or hat at an index, so there are no rules and attachments
 abbrev pub HasNothingAt : Profile → Option ℕ → Type 0
 HasNothingAt profile child = (rules_at profile child ≡ []) × (attachments_at profile child ≡ [])
 
--- a part was made of the rules and attachments of a profile, or of its child or hat at a place
+-- a part was made of the rules and attachments of a profile, or of its child or hat at an index
 abbrev pub IsPartAt : Profile → Option ℕ → Part → Type 0
 IsPartAt profile child part = IsPartOf part (rules_at profile child) (attachments_at profile child)

@@ -8,7 +8,7 @@ use Rattle.aa_decide_rules.specs.Ranks.{exact_rank, greater}
 abbrev pub matching_rank : List ℕ → ℕ
 matching_rank pattern = if is_exact (items_of pattern) then exact_rank else literal_prefix (items_of pattern) + 1
 
--- the greatest of a rank and of those of the patterns at some places
+-- the greatest of a rank and the ranks of the patterns at some indexes
 abbrev pub best_among : List (List ℕ) → ℕ → List ℕ → ℕ
 best_among patterns best [] = best
 best_among patterns best (place ∷ places) = elim (slice_get patterns place) [

@@ -1,4 +1,4 @@
--- What rules say of a program that is started whose patterns match its path.
+-- What rules say of the start of a program whose patterns match its path.
 use Rattle.std.specs.Prelude.{ℕ, Bool, not, ◌||◌, if◌then◌else◌, List, [], ◌∷◌, Option, None, Some, slice_get}
 use Rattle.aa_profile_data.specs.declared.profile.Rule.{Rule}
 use Rattle.aa_profile_data.specs.declared.profile.Rule.TheVariants.{Cap, File, Net, Other}
@@ -19,11 +19,11 @@ owned_rules flag owned (rule ∷ rules) = elim (said_if_owned flag owned rule) [
   | Some said ↦ said ∷ owned_rules flag owned rules
 ]
 
--- what the rule at a place says
+-- what the rule at an index says
 abbrev pub said_at : Bool → Bool → List Rule → ℕ → Option ExecRule
 said_at flag owned rules place = elim (slice_get rules place) [ None ↦ None | Some rule ↦ said_if_owned flag owned rule ]
 
--- what the rules at some places say, in the order of the places
+-- what the rules at some indexes say, in the order of the indexes
 abbrev pub said_by_picked : Bool → Bool → List Rule → List ℕ → List ExecRule
 said_by_picked flag owned rules [] = []
 said_by_picked flag owned rules (place ∷ places) = elim (said_at flag owned rules place) [

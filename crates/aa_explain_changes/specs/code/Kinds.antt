@@ -27,12 +27,12 @@ abbrev pub letter_list : LetterChanges → List (ℕ × Change)
 letter_list c =
     (READ, c.read) ∷ (WRITE, c.write) ∷ (APPEND, c.append) ∷ (LINK, c.link) ∷ (LOCK, c.lock) ∷ (MAP, c.map) ∷ (EXEC, c.exec) ∷ []
 
--- these are the places of the rules of a side that match a path, in rising order
+-- these are the indexes of the rules of a side that match a path, in rising order
 pub record AreSidePlaces (rules : List Rule) (path places : List ℕ) : Type 0 where
   pub found : AreMatchingRules rules path places
   pub rise : IsStrictlyIncreasing places
 
--- the same of both sides
+-- these are the indexes of the rules of both sides that match a path
 pub record ArePlacesOf (sides : Sides) (places : Places) : Type 0 where
   pub old : AreSidePlaces sides.old.rules places.path.now places.old.now
   pub new : AreSidePlaces sides.new.rules places.path.now places.new.now
@@ -47,16 +47,16 @@ pub record IsKind (sides : Sides) (kind : Kind) : Type 0 where
 abbrev pub paths_of_kinds : List Kind → List (List ℕ)
 paths_of_kinds kinds = map (λ (k : Kind). k.path.items) kinds
 
--- those of some places that lie behind so many, counted from there
+-- those of some indexes that are past a count, counted from there
 abbrev pub places_behind : ℕ → List ℕ → List ℕ
 places_behind count [] = []
 places_behind count (place ∷ places) = if nat_lt place count then places_behind count places else (place - count) ∷ places_behind count places
 
--- what is told of a path, if answers change on it that a rule takes part in
+-- the report on a path, if answers change on it that a rule takes part in
 abbrev pub told_if : Sides → FileRule → List ℕ → Option FileChange
 told_if sides rule path = if changes_at sides rule path then Some (told_at sides rule path) else None
 
--- what is told of the first of some paths on which they do
+-- the report on the first of some paths on which such answers change
 abbrev pub first_told : Sides → FileRule → List (List ℕ) → Option FileChange
 first_told sides rule [] = None
 first_told sides rule (path ∷ paths) = if changes_at sides rule path then Some (told_at sides rule path) else first_told sides rule paths
@@ -72,11 +72,11 @@ IsLoneOf sides is_old lone = slice_get (rules_of sides is_old) lone.number ≡ S
 abbrev pub AreLoneOf : Sides → Bool → List LoneRule → Type 0
 AreLoneOf sides is_old lone = All (IsLoneOf sides is_old) lone
 
--- what is told of a rule by these paths
+-- the report on a rule by these paths
 abbrev pub told_of : Sides → List (List ℕ) → LoneRule → RuleChange
 told_of sides paths lone = record { lone = lone; told = first_told sides lone.rule paths }
 
--- what is told of rules of both sides by these paths
+-- the reports on rules of both sides by these paths
 pub record AreToldBy (sides : Sides) (paths : List (List ℕ)) (before now : List LoneRule) (changes : FileChanges) : Type 0 where
   pub old : map seen_rule_change changes.old.items ≡ map (told_of sides paths) before
   pub new : map seen_rule_change changes.new.items ≡ map (told_of sides paths) now

@@ -7,7 +7,7 @@ use Rattle.aa_profile_data.specs.declared.profile.Rule.TheVariants.{Cap, File, N
 use Rattle.aa_explain_diff.specs.Features.{Feature, OfAttachment, OfAudit, OfFlag, OfHat, OfMode, OfRule, same_feature, seen_feature}
 use Rattle.aa_explain_diff.specs.declared.features.Feature.{Feature as CodeFeature}
 
--- the text that tells most rules apart: the pattern of a file rule, or the text of one that decides nothing
+-- the text that tells most rules apart: the pattern of a file rule, or the text of a rule that decides nothing
 abbrev pub text_of_rule : Rule → List ℕ
 text_of_rule (File rule) = rule.pattern
 text_of_rule (Cap rule) = []
@@ -19,7 +19,7 @@ abbrev pub target_bytes : Option (List ℕ) → List ℕ
 target_bytes None = []
 target_bytes (Some target) = target
 
--- the set of capabilities of a rule on these
+-- the set of capabilities of a rule on capabilities
 abbrev pub caps_of_rule : Rule → ℕ
 caps_of_rule (File rule) = 0
 caps_of_rule (Cap rule) = rule.caps
@@ -33,7 +33,7 @@ link_of_rule (Cap rule) = []
 link_of_rule (Net rule) = []
 link_of_rule (Other rule) = []
 
--- what is hashed of a feature: equal ones have it equal
+-- what is hashed of a feature: equal features have equal hashes
 abbrev pub text_of : Feature → List ℕ
 text_of (OfMode mode) = []
 text_of OfHat = []

@@ -1,4 +1,4 @@
--- The first of some paths that says otherwise.
+-- The first of some paths that breaks the claim.
 use Rattle.std.specs.Prelude.{ℕ, Bool, if◌then◌else◌, List, [], ◌∷◌, Option, None, Some}
 use Rattle.aa_glob_paths.specs.declared.outcome.Outcome.{Outcome}
 use Rattle.aa_profile_data.specs.declared.profile.Rule.{Rule}
@@ -7,7 +7,7 @@ use Rattle.aa_explain_paths.specs.Claims.{breaks_for}
 use Rattle.aa_explain_paths.specs.declared.question.PathAnswer.{PathAnswer}
 use Rattle.aa_explain_paths.specs.declared.question.PathAnswer.TheVariants.{Fails, Holds, TooMany}
 
--- a path says otherwise
+-- a path breaks the claim
 abbrev pub says_otherwise : List Rule → Asked → List ℕ → Bool
 says_otherwise rules asked path = breaks_for asked.claim rules asked.letters asked.whose path
 
@@ -27,15 +27,15 @@ seen_answer (Holds count) = HoldsOf count
 seen_answer (Fails breaking) = FailsAt (seen_breaking breaking)
 seen_answer TooMany = AreTooMany
 
--- what is told of a path, by whose file of it says otherwise and by which letters
+-- the report on a path, by whose file of it breaks the claim and by which letters
 abbrev pub breaking_with : List ℕ → Bool → ℕ → Breaking
 breaking_with path owned letters = record { path = path; owned = owned; letters = letters }
 
--- what is told of a path, if it says otherwise
+-- the report on a path, if it breaks the claim
 abbrev pub breaking_at : List Rule → Asked → List ℕ → Option Breaking
 breaking_at rules asked path = if says_otherwise rules asked path then Some (breaking_by rules asked path) else None
 
--- the answer where so many paths stand for all, and this is the first that says otherwise, if one does
+-- the answer where so many paths stand for all, and this is the first that breaks the claim, if one does
 abbrev pub answer_of : List Rule → Asked → ℕ → Option (List ℕ) → SeenAnswer
 answer_of rules asked count None = HoldsOf count
 answer_of rules asked count (Some path) = FailsAt (breaking_by rules asked path)

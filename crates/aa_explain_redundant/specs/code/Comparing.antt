@@ -1,4 +1,4 @@
--- Whether two sides say the same of a path, as a test.
+-- Whether two sides give the same verdict on a path, as a test.
 use Rattle.std.specs.Prelude.{ℕ, Bool, false, true, not, ◌&&◌, ◌||◌, List}
 use Rattle.std.specs.List.{list_any}
 use Rattle.aa_decide_rules.specs.Choices.{Choice, Denied, Leads, Missing, choice}
@@ -20,7 +20,7 @@ same_choice Missing Missing = true
 same_choice (Leads one loud) (Leads other other_loud) = same_transition one other && same_flag loud other_loud
 same_choice _ _ = false
 
--- something else is said of the start of its program
+-- the start of the program of a path is answered otherwise
 abbrev pub start_changes : Side → Side → List ℕ → Bool → Bool
 start_changes one other path owned = not (same_choice (choice one.audit owned path one.rules) (choice other.audit owned path other.rules))
 

@@ -4,7 +4,7 @@ use Rattle.std.specs.List.{All}
 use Rattle.aa_profile_data.specs.Matching.{is_matching}
 use Rattle.aa_explain_redundant.specs.declared.copies.Copies.{Copies}
 
--- the places of so many
+-- the numbers below a count
 abbrev pub places_to : ℕ → List ℕ
 places_to zero = []
 places_to (suc count) = places_to count ++ count ∷ []

@@ -1,4 +1,4 @@
--- Kinds of paths, as the code holds them, and which written rules are told by them.
+-- Kinds of paths, as the code holds them, and which written rules are reported by them.
 use Rattle.std.specs.Prelude.{◌≡◌, ℕ, ◌+◌, Bool, ◌&&◌, if◌then◌else◌, List, [], ◌∷◌, ◌++◌, fold, map, nat_eq}
 use Rattle.std.specs.List.{list_any}
 use Rattle.aa_explain_paths.specs.Meant.{unasked_patterns}
@@ -14,14 +14,14 @@ use Rattle.aa_explain_redundant.specs.code.Comparing.{answers_change}
 use Rattle.aa_explain_redundant.specs.code.Copies.{AreCounted}
 use Rattle.aa_explain_redundant.specs.declared.kinds.Kind.{Kind}
 
--- an outcome of the patterns of rules on files, and of others behind them
+-- an outcome of the patterns of rules on files, followed by other patterns
 pub record IsOutcomeOf (rules : List Rule) (own : Outcome) : Type 0 where
   pub patterns : List (List ℕ)
   pub unasked : List (List ℕ)
   pub classes : List ℕ
   pub outcome : IsOutcome (telling_patterns rules patterns unasked) classes own
 
--- those of some rules that stand at these places, of which the first has this one
+-- those of some rules that are at these indexes, of which the first has this one
 abbrev pub standing_at : List ℕ → ℕ → List Numbered → List Numbered
 standing_at places place [] = []
 standing_at places place (one ∷ rules) = if list_any (λ p. nat_eq p place) places then one ∷ standing_at places (place + 1) rules else standing_at places (place + 1) rules
@@ -35,30 +35,30 @@ pub record IsKind (rules : List Numbered) (kind : Kind) : Type 0 where
 abbrev pub paths_of_kinds : List Kind → List (List ℕ)
 paths_of_kinds kinds = map (λ (kind : Kind). kind.path.items) kinds
 
--- what is left of some rules
+-- the rules that are left of some, as a side
 abbrev pub side_of : Bool → List ℕ → List Numbered → Side
 side_of audit gone rules = record { audit = audit; rules = left_of gone rules }
 
--- of some rules that match a path one is of a written rule, and without these something else is said of the path
+-- of some rules that match a path one is of a written rule, and without these the verdict on the path differs
 abbrev pub changes_there : Bool → List ℕ → ℕ → List ℕ → List Numbered → Bool
 changes_there audit gone number path rules = speaks number rules && answers_change (side_of audit [] rules) (side_of audit gone rules) path
 
 abbrev pub changes_on : Bool → List Numbered → List ℕ → ℕ → List ℕ → Bool
 changes_on audit rules gone number path = changes_there audit gone number path (matching path rules)
 
--- something else is said of one of some paths
+-- the verdict on one of some paths differs
 abbrev pub some_change : Bool → List Numbered → List (List ℕ) → List ℕ → ℕ → Bool
 some_change audit rules paths gone number = list_any (changes_on audit rules gone number) paths
 
--- what is told, and this written rule, unless something else is said of one of some paths
+-- the reported rules, with this written rule added, unless the verdict on one of some paths differs
 abbrev pub told_unless : Bool → List Numbered → List (List ℕ) → List ℕ → ℕ → List ℕ
 told_unless audit rules paths told number = if some_change audit rules paths (told ++ number ∷ []) number then told else told ++ number ∷ []
 
--- the same, if it can be told
+-- the reported rules, with this written rule added if it can be reported, unless the verdict on one of some paths differs
 abbrev pub told_with : Bool → List Numbered → List (List ℕ) → List ℕ → ℕ → List ℕ
 told_with audit rules paths told number = if can_be_told rules told number then told_unless audit rules paths told number else told
 
--- what is told of written rules by some paths
+-- the written rules that some paths report
 abbrev pub told_by : Bool → List Numbered → List (List ℕ) → List ℕ → List ℕ
 told_by audit rules paths tried = fold (told_with audit rules paths) [] tried
 

@@ -1,4 +1,4 @@
--- How far the text of one more pattern has been followed.
+-- How far the text of another pattern has been followed.
 use Rattle.std.specs.Prelude.{◌≡◌, ℕ, ◌<◌, List, [], ◌++◌, length, reverse}
 use Rattle.aa_glob.specs.Walks.{Standing}
 use Rattle.aa_glob.specs.code.Growths.{Follows, IsGrowing}
@@ -11,11 +11,11 @@ use Rattle.aa_glob_pattern.specs.Trails.{Trail, trail_of}
 abbrev pub Between : List (List ℕ) → Growing → Type 0
 Between patterns g = (trails : List Trail) × IsGrowing patterns [] g trails
 
--- the same for some patterns
+-- what has grown stands for some patterns, and no other is being followed
 abbrev pub IsGrown : Growing → Type 0
 IsGrown g = (patterns : List (List ℕ)) × Between patterns g
 
--- A walk over a text has come this far: it has read a trail, and what is left, the last element first, stands before it in the whole trail.
+-- A walk over a text has come so far: it has read a trail, and what is left, the last element first, precedes it in the whole trail.
 pub record IsFollowing (old : Growing) (text : List ℕ) (g : Growing) (walk : Standing) (left : List Element) : Type 0 where
   pub trail : Trail
   pub whole : reverse left ++ trail ≡ trail_of text
@@ -28,6 +28,6 @@ pub record EndsWhole (patterns : List (List ℕ)) (text : List ℕ) (g : Growing
   pub there : state < length trails
   pub is : trail_at trails state ≡ trail_of text
 
--- one more text was followed to its end, which is a state
+-- another text was followed to its end, which is a state
 abbrev pub LeadsToEnd : Growing → List ℕ → Growing → ℕ → Type 0
 LeadsToEnd old text new state = (patterns : List (List ℕ)) → Between patterns old → EndsWhole patterns text new state

@@ -11,14 +11,14 @@ use Rattle.aa_glob_pattern.specs.Beginnings.{Begun}
 use Rattle.aa_glob_pattern.specs.Trails.{Trail}
 use Rattle.aa_glob.specs.Tree.{HasOneMore, places}
 
--- what has grown stands for these trails: the beginnings of patterns, and those of a trail to which one more pattern has led so far
+-- what has grown stands for these trails: the beginnings of patterns, and those of a trail to which another pattern has led so far
 pub record IsGrowing (patterns : List (List ℕ)) (trail : Trail) (g : Growing) (trails : List Trail) : Type 0 where
   pub drawn : IsDrawn g.drawing trails
   pub finds : Finds g.tree g.numbers trails
   pub begun : Begun patterns trail trails
   pub ends : EndWhole g.drawing trails patterns
 
--- a walk has come to the trail to which one more pattern has led so far
+-- a walk has come to the trail to which another pattern has led so far
 pub record Follows (patterns : List (List ℕ)) (trail : Trail) (g : Growing) (walk : Standing) : Type 0 where
   pub trails : List Trail
   pub growing : IsGrowing patterns trail g trails
@@ -28,7 +28,7 @@ pub record Follows (patterns : List (List ℕ)) (trail : Trail) (g : Growing) (w
 abbrev pub IsWalked : Growing → Standing → Type 0
 IsWalked g walk = (patterns : List (List ℕ)) × (trail : Trail) × Follows patterns trail g walk
 
--- the walk stands at a trail still, and a state is that of the trail which an element leads to
+-- the walk is at a trail still, and a state is that of the trail to which an element leads
 pub record FollowsTo (patterns : List (List ℕ)) (e : Element) (trail : Trail) (g : Growing) (walk : Standing) (state : ℕ) : Type 0 where
   pub trails : List Trail
   pub growing : IsGrowing patterns (e ∷ trail) g trails
@@ -36,17 +36,17 @@ pub record FollowsTo (patterns : List (List ℕ)) (e : Element) (trail : Trail) 
   pub there : state < length trails
   pub is : trail_at trails state ≡ e ∷ trail
 
--- an element leads from where a walk stands to a state
+-- an element leads from where a walk is to a state
 abbrev pub LeadsTo : Growing → Standing → Element → Growing → ℕ → Type 0
 LeadsTo old walk e new state =
     (patterns : List (List ℕ)) (trail : Trail) → Follows patterns trail old walk → FollowsTo patterns e trail new walk state
 
--- a walk goes on over an element
+-- a walk follows an element
 abbrev pub GoesOver : Growing → Standing → Element → Growing → Standing → Type 0
 GoesOver old before e new after =
     (patterns : List (List ℕ)) (trail : Trail) → Follows patterns trail old before → Follows patterns (e ∷ trail) new after
 
--- one state more, for an element behind where a walk stands, which is found there by a number
+-- one more state, for an element after where a walk is, which is found from there by a number
 pub record GrowsBy (old : Growing) (walk : Standing) (e : Element) (number : ℕ) (new : Growing) : Type 0 where
   pub entry : Entry
   pub suits : Suits e entry

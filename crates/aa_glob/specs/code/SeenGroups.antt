@@ -1,4 +1,4 @@
--- The groups that a walk keeps, with the innermost first.
+-- The groups that a walk keeps, the innermost first.
 use Rattle.std.specs.Prelude.{List, map, reverse}
 use Rattle.aa_glob.specs.Walks.{OpenStates}
 use Rattle.aa_glob.specs.declared.walk.Group.{Group}

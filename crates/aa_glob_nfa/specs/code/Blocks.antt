@@ -7,7 +7,7 @@ use Rattle.aa_glob_nfa.specs.declared.state.Way.{Way}
 abbrev pub block_of : ℕ → ℕ
 block_of q = q / 8
 
--- the ways of a block's states, and of those behind it, begin at a place of the table
+-- the ways of a block's states, and of those of later blocks, begin at a place of the table
 pub record Begins (ways : List Way) (block place : ℕ) : Type 0 where
   pub within : place ≤ length ways
   pub before : AllWithin (λ w. block_of w.from < block) ways 0 place

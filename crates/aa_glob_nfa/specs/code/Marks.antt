@@ -1,9 +1,9 @@
--- The bits that a list of states has beside it, once it is long.
+-- The bits that are kept with a list of states, once it is long.
 use Rattle.std.specs.Prelude.{◌≡◌, ◌⊎◌, ℕ, ◌*◌, ◌<◌, ◌≤◌, List, [], length, All}
 use Rattle.aa_bytes.specs.Bits.{has_bit}
 use Rattle.aa_glob_nfa.specs.Fronts.{AreDistinct, is_in}
 
--- there is a bit for each number below one, which is set for those of a list
+-- there is a bit for each number less than a bound, which is set for those in a list
 pub record AreMarked (states : List ℕ) (room : ℕ) (members : List ℕ) : Type 0 where
   pub marked : (r : ℕ) → has_bit members r ≡ is_in r states
   pub bits : room ≤ 64 * length members

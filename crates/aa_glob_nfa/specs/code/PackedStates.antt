@@ -1,4 +1,4 @@
--- States as they are kept: two bytes for each.
+-- States as they are stored: two bytes for each.
 use Rattle.std.specs.Prelude.{ℕ, ◌==◌, if◌then◌else◌}
 use Rattle.aa_bytes.specs.Bits.{byte_has_bit}
 use Rattle.aa_glob_nfa.specs.Tables.{State}
@@ -10,7 +10,7 @@ use Rattle.aa_glob_nfa.specs.declared.packed_state.PackedState.{PackedState}
 abbrev pub gate_numbered : ℕ → Gate
 gate_numbered n = if n == 0 then Free else if n == 1 then Inside else if n == 2 then Class else if n == 3 then Star else DoubleStar
 
--- The state that two bytes stand for. Its first flag says whether its byte leads in or is a gate's number.
+-- The state that two bytes mean. Its first flag says whether its byte leads in or is a gate's number.
 abbrev pub state_of : PackedState → State
 state_of packed =
     record {

@@ -9,7 +9,7 @@ use Rattle.aa_glob_pairs.specs.declared.meeting.Meeting.{Meeting}
 abbrev pub no_marks : ℕ → List ℕ
 no_marks states = replicate states 0
 
--- a state was looked at beside a first one
+-- a state was looked at with a first one
 abbrev pub IsSeen : List ℕ → ℕ → ℕ → Type 0
 IsSeen seen row r = slice_index_or seen r 0 ≡ row + 1
 
@@ -17,8 +17,8 @@ IsSeen seen row r = slice_index_or seen r 0 ≡ row + 1
 abbrev pub IsDone : Classed → List ℕ → ℕ → ℕ → ℕ → Type 0
 IsDone g seen row q r = (q ≤ r) × (((q < row) × Met g q r) ⊎ ((q ≡ row) × IsSeen seen row r))
 
--- So far so many pairs of this first state were looked at, and all of earlier ones: what follows from them waits, if it isn't of an earlier
--- one, and nothing waits that isn't met. What was found is the least pattern that clashes at one of them.
+-- So many pairs of this first state were looked at, and all of earlier ones: what follows from them waits, if it isn't of an earlier one, and
+-- nothing waits that isn't met. What was found is the least pattern that clashes at one of them.
 pub record IsMeeting (g : Classed) (row at : ℕ) (meeting : Meeting) : Type 0 where
   pub marks : length meeting.seen.items ≡ states_of g
   pub begun : row ≡ 0 → Waits meeting.waiting 0 0

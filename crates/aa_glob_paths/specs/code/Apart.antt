@@ -16,13 +16,13 @@ HasOwnBytes states count own = (q b : ℕ) → q < count → (state_at states q)
 abbrev pub HaveAlike : List ClassRow → ℕ → ℕ → Type 0
 HaveAlike classes c d = All (λ row. in_map row.map c ≡ in_map row.map d) classes
 
--- bytes got one like another, if they had none
+-- bytes were given one like another, if they had none
 pub record GetsLike (g : Graph) (old new : List ℕ) (byte : ℕ) : Type 0 where
   pub keeps : (b : ℕ) → Contains old b → Contains new b
   pub only : (b : ℕ) → Contains new b → Contains old b ⊎ (b ≡ byte)
   pub like : (b : ℕ) × Contains new b × AreAlike g b byte
 
--- bytes got one like each of some others, of those alone
+-- bytes were given one like each of some others, and only of those
 pub record GetsLikeEach (g : Graph) (old new more : List ℕ) : Type 0 where
   pub keeps : (b : ℕ) → Contains old b → Contains new b
   pub only : (b : ℕ) → Contains new b → Contains old b ⊎ Contains more b

@@ -9,30 +9,30 @@ pub record Grows (old new : List FoundSet) : Type 0 where
   pub longer : length old ≤ length new
   pub same : (n : ℕ) → n < length old → found_at new n ≡ found_at old n
 
--- a set was there already, or is there from now on, as the last one
+-- a set was there already, or was appended
 pub record HasPlaced (old new : List FoundSet) (one : FoundSet) : Type 0 where
   pub number : ℕ
   pub within : number < length new
   pub there : set_at new number ≡ one.set
   pub only : (new ≡ old) ⊎ ((new ≡ old ++ one ∷ []) × All (λ f. f.set ≢ one.set) old)
 
--- no set comes of one behind that of a number
+-- no set was found from one after that of a number
 abbrev pub ComeOfUpTo : List FoundSet → ℕ → Type 0
 ComeOfUpTo found n = All (λ f. f.origin.from ≤ n) found
 
--- a set is followed behind each of some bytes
+-- a set is followed by each of some bytes
 abbrev pub IsFollowedBehind : Graph → List Bool → List Bool → List FoundSet → ℕ → List ℕ → Type 0
 IsFollowedBehind g wanted settled found n bytes = (c : ℕ) → Contains bytes c → IsFollowed g wanted settled found n c
 
--- a set is followed behind each byte
+-- a set is followed by each byte
 abbrev pub IsFollowedByAll : Graph → List Bool → List Bool → List FoundSet → ℕ → Type 0
 IsFollowedByAll g wanted settled found n = (c : ℕ) → c < 2 ^ 8 → IsFollowed g wanted settled found n c
 
--- the sets before a number are followed behind each byte
+-- the sets before a number are followed by each byte
 abbrev pub IsClosedBefore : Graph → List Bool → List Bool → List FoundSet → ℕ → Type 0
 IsClosedBefore g wanted settled found at = (n : ℕ) → n < at → IsFollowedByAll g wanted settled found n
 
--- sets that were found, with more of them maybe than before, which come of those up to a number
+-- sets that were found, with maybe more of them than before, which were found from those up to a number
 pub record AreMore (g : Graph) (room n : ℕ) (old new : List FoundSet) : Type 0 where
   pub found : AreFound g room new
   pub up_to : ComeOfUpTo new n

@@ -1,4 +1,4 @@
--- Outcomes as they are kept while they are made: paths under places, in the order in which they were put in.
+-- Outcomes as they are stored while they are found: paths under places, in the order in which they were inserted.
 use Rattle.std.specs.Prelude.{ℕ, List, map, Vec}
 use Rattle.std.specs.declared.alloc.Global.{Global}
 use Rattle.aa_glob_paths.specs.declared.outcome.Outcome.{Outcome}

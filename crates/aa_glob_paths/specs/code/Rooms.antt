@@ -1,4 +1,4 @@
--- For which states there is room in what is kept from step to step.
+-- For which states there is room in the buffers that are kept from step to step.
 use Rattle.std.specs.Prelude.{◌≡◌, ℕ}
 use Rattle.aa_glob_paths.specs.declared.fronts.Fronts.{Fronts}
 

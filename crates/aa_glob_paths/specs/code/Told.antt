@@ -6,32 +6,32 @@ use Rattle.aa_bytes.specs.declared.byte_map.ByteMap.{ByteMap}
 use Rattle.aa_glob_nfa.specs.Entries.{takes_byte}
 use Rattle.aa_glob_nfa.specs.Graphs.{Graph, Leads, entry_of}
 
--- a byte is among some, and isn't told
+-- a byte is among some, and isn't in the set
 abbrev pub IsUntold : List ℕ → ByteMap → ℕ → Type 0
 IsUntold bytes told c = Contains bytes c × (in_map told c ≡ false)
 
--- what ends a path and what ends a segment of one are told
+-- what ends a path and what ends a segment of one are in the set
 abbrev pub HasEnds : ByteMap → Type 0
 HasEnds told = (in_map told 0 ≡ true) × (in_map told slash ≡ true)
 
--- what was told still is
+-- what was in the set still is
 abbrev pub KeepsTold : ByteMap → ByteMap → Type 0
 KeepsTold old new = (c : ℕ) → in_map old c ≡ true → in_map new c ≡ true
 
--- of the bytes that aren't told all lead into a state, or none
+-- the bytes that aren't in the set all lead into a state, or none does
 abbrev pub TellsEntry : Graph → List ℕ → ByteMap → ℕ → Type 0
 TellsEntry g bytes told r =
     (c d : ℕ) → IsUntold bytes told c → IsUntold bytes told d → takes_byte (entry_of g r) c ≡ takes_byte (entry_of g r) d
 
--- the same of each state of a kind
+-- the bytes that aren't in the set all lead into a state, or none does, for each state of a kind
 abbrev pub TellsWays : (ℕ → Type 0) → Graph → List ℕ → ByteMap → Type 0
 TellsWays Kind g bytes told = (r : ℕ) → Kind r → TellsEntry g bytes told r
 
--- the same of each state that a way leads to from one of a set
+-- the bytes that aren't in the set all lead into a state, or none does, for each state to which a way leads from one of a set of states
 abbrev pub TellsSet : Graph → List ℕ → ByteMap → List ℕ → Type 0
 TellsSet g bytes told set = (q : ℕ) → Contains set q → TellsWays (Leads g q) g bytes told
 
--- a byte stands for another: it is the same, or neither is told
+-- a byte stands for another: they are equal, or neither is in the set
 abbrev pub StandsFor : ByteMap → ℕ → ℕ → Type 0
 StandsFor told b c = (b ≡ c) ⊎ ((in_map told b ≡ false) × (in_map told c ≡ false))
 

@@ -1,4 +1,4 @@
--- The found sets as they are kept: keys of a map, in the order in which they were put in, each with its origin.
+-- The found sets as they are stored: keys of a map, in the order in which they were inserted, each with its origin.
 use Rattle.std.specs.Prelude.{ℕ, List, map, Vec}
 use Rattle.aa_glob_paths.specs.Found.{FoundSet}
 use Rattle.aa_glob_paths.specs.declared.origin.Origin.{Origin}

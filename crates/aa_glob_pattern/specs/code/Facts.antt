@@ -3,7 +3,7 @@ use Rattle.std.specs.Prelude.{◌≡◌, ◌≤◌, ℕ, Bool, List, length, Ok}
 use Rattle.aa_glob_syntax.specs.Exactness.{is_exact, literal_prefix}
 use Rattle.aa_glob_syntax.specs.Reading.{items_of, longest, reading}
 
--- That the text isn't too long follows from its reading; it is kept because whoever goes over a pattern's text asks for it.
+-- That the text isn't too long follows from its reading; it is kept because callers that go over a pattern's text need it.
 abbrev pub AreFacts : Bool → ℕ → List ℕ → Type 0
 AreFacts exact prefix text =
     (reading text ≡ Ok (items_of text))

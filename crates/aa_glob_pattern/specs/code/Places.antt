@@ -1,4 +1,4 @@
--- What is known at a place of a pattern's text of a past, and how it goes on behind an element.
+-- What is known of a past at a place in a pattern's text, and how it continues after an element.
 use Rattle.std.specs.Prelude.{◌≡◌, ℕ, Bool, ◌==◌, ◌||◌, ◌&&◌, not, List, map, Some}
 use Rattle.aa_bytes.specs.ByteSets.{has, is_inside}
 use Rattle.aa_glob_syntax.specs.Cursor.{class_set}
@@ -10,7 +10,7 @@ use Rattle.aa_glob_pattern.specs.declared.place.Place.{Place}
 use Rattle.aa_glob_pattern.specs.declared.places.Places.{Places}
 use Rattle.aa_glob_pattern.specs.Reads.{Known, known_behind, KnownGroup}
 
--- Whether the place behind an element is active for a past with this byte at its end: by whether what leads to the element is, for the past before
+-- Whether the place after an element is active for a past with this byte at its end: by whether what leads to the element is, for the past before
 -- and for this one, and by whether the element itself was for the past before.
 abbrev pub active_behind : Found → ℕ → Bool → Bool → Bool → Bool
 active_behind (Byte b) byte before now own = byte == b && before
@@ -22,23 +22,23 @@ active_behind Open byte before now own = now
 active_behind Comma byte before now own = now
 active_behind Close byte before now own = now
 
--- of which open groups a past reads the beginning of the alternatives, and of which one of their ends so far
+-- for which open groups a past reads the beginning of the alternatives, and for which one of their ends so far
 abbrev pub active_beginnings : Past → List KnownGroup → List Bool
 active_beginnings past gs = map (λ (g : KnownGroup). is_among g.beginning past) gs
 
 abbrev pub active_ends : Past → List KnownGroup → List Bool
 active_ends past gs = map (λ (g : KnownGroup). is_among g.ends past) gs
 
--- the place tells what is known, of this past
+-- the place has what is known of this past
 abbrev pub IsAt : Past → Known → Place → Type 0
 IsAt past k place =
     (place.here ≡ is_among k.here past) × (place.beginnings ≡ active_beginnings past k.groups) × (place.ends ≡ active_ends past k.groups)
 
--- a place goes over into the one behind an element, which is active or not
+-- a place turns into the one after an element, which is active or not
 abbrev pub GoesOver : Place → Element → Bool → Place → Type 0
 GoesOver before e active after =
     (past : Past) (k : Known) → IsAt past k before → active ≡ is_among (known_behind e k).here past → IsAt past (known_behind e k) after
 
--- the places tell what is known of a past and of the one behind it by this byte
+-- the places have what is known of a past and of the one that continues it by this byte
 abbrev pub AreAt : Past → ℕ → Known → Places → Type 0
 AreAt past byte k places = IsAt past k places.before × IsAt (Some (next_past byte past)) k places.after

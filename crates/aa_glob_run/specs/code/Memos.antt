@@ -1,4 +1,4 @@
--- What is remembered of runs: states that live together at a place, and which follow behind a byte.
+-- What is remembered of runs: states that are live together at a place, and which follow by a byte.
 use Rattle.std.specs.Prelude.{◌≡◌, ℕ, suc, ◌+◌, ◌*◌, ◌/◌, ◌<◌, List, [], length, map, replicate, reverse, set, take, All, slice_index_or}
 use Rattle.aa_glob_nfa.specs.Graphs.{Graph}
 use Rattle.aa_glob_nfa.specs.Fronts.{IsLive}
@@ -9,7 +9,7 @@ use Rattle.aa_glob_run.specs.declared.memo.Memo.{Memo}
 abbrev pub most_fronts : ℕ
 most_fronts = 8192
 
--- how many moves of a text are looked for at most, each time it is remembered: some, and more of a long one
+-- how many moves of a text are found at most, each time it is remembered: 32, and more for a long one
 abbrev pub most_new : List ℕ → ℕ
 most_new text = 32 + length text / 128
 
@@ -17,19 +17,19 @@ most_new text = 32 + length text / 128
 abbrev pub front_of : List (List ℕ) → ℕ → List ℕ
 front_of fronts n = slice_index_or fronts n []
 
--- where a row of moves tells which list follows behind a byte: each list has a row, and each byte a place in it
+-- the place in the rows of moves where it is noted which list follows by a byte: each list has a row, and each byte a place in it
 abbrev pub place_of : ℕ → ℕ → ℕ
 place_of from byte = from * 256 + byte
 
--- a row that tells nothing yet
+-- a row in which no move is known
 abbrev pub unknown_row : List ℕ
 unknown_row = replicate 256 0
 
--- it is known that behind a byte a list leads to another: that one's number and one more stands there, and 0 where none is known
+-- it is known that a list leads to another by a byte: the place has the other's number plus one, and 0 where none is known
 abbrev pub Notes : List ℕ → ℕ → ℕ → ℕ → Type 0
 Notes moves from byte to = slice_index_or moves (place_of from byte) 0 ≡ suc to
 
--- rows in which it is known from now on that a list leads to another behind a byte
+-- rows in which it is noted that a list leads to another by a byte
 abbrev pub with_move : List ℕ → ℕ → ℕ → ℕ → List ℕ
 with_move moves from byte to = set moves (place_of from byte) (suc to)
 
@@ -37,7 +37,7 @@ with_move moves from byte to = set moves (place_of from byte) (suc to)
 abbrev pub IsRight : Graph → List (List ℕ) → ℕ → ℕ → ℕ → Type 0
 IsRight g fronts from byte to = (to < length fronts) × LeadsTo g (front_of fronts from) byte (front_of fronts to)
 
--- What is remembered is right. The first list is of the states that live before a text.
+-- What is remembered is right. The first list is of the states that are live before a text.
 pub record IsMemo (g : Graph) (room : ℕ) (fronts : List (List ℕ)) (moves : List ℕ) : Type 0 where
   pub start : 0 < length fronts → IsWhole g [] (front_of fronts 0)
   pub lists : All (IsLive room) fronts
@@ -59,11 +59,11 @@ HasRows memo = length memo.moves.items ≡ length (fronts_in memo) * 256
 abbrev pub IsEmpty : Memo → Type 0
 IsEmpty memo = (fronts_in memo ≡ []) × (memo.moves.items ≡ [])
 
--- what is remembered is right, of an automaton with this graph and so many states
+-- what is remembered is right, for an automaton with this graph and so many states
 abbrev pub Remembers : Graph → ℕ → Memo → Type 0
 Remembers g room memo = IsMemo g room (fronts_in memo) memo.moves.items
 
--- A run has come to a place by what is remembered: the list of a number is that of the states that live there.
+-- A run has come to a place by what is remembered: the list of a number has the states that are live there.
 pub record IsRecalling (g : Graph) (text : List ℕ) (place room : ℕ) (memo : Memo) (at old new : ℕ) : Type 0 where
   pub within : at < length (fronts_in memo)
   pub whole : IsWhole g (reverse (take place text)) (front_at memo at)

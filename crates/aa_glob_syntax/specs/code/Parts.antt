@@ -1,4 +1,4 @@
--- What comes next in a class, told by the part that was read.
+-- What comes next in a class, by the part that was read.
 use Rattle.std.specs.Prelude.{◌≡◌, ℕ, List, [], ◌∷◌, ◌++◌, length, true, false, Ok}
 use Rattle.aa_bytes.specs.Bytes.{closing_bracket, dash}
 use Rattle.aa_glob_syntax.specs.Classes.{members}
@@ -10,7 +10,7 @@ use Rattle.aa_glob_syntax.specs.declared.part.Part.TheVariants.{End, Member}
 use Rattle.aa_glob_syntax.specs.declared.context.Context.TheVariants.{Elsewhere}
 use Rattle.aa_glob_syntax.specs.declared.symbol.Symbol.{Symbol}
 
--- whatever members came before, a member is behind them, or they are all
+-- whatever members came before, this member follows them, or they are all
 abbrev pub IsPart : List Symbol → Part → Type 0
 IsPart ls (Member range rest) =
     ((before : List ByteRange) → members before ls ≡ members (before ++ range ∷ []) (symbols rest.now))
@@ -24,6 +24,6 @@ abbrev pub bytes_left : Part → ℕ
 bytes_left (Member range rest) = length rest.now
 bytes_left (End rest) = length rest.now
 
--- a text of symbols begins with `-` and a range's last symbol, behind which this is left
+-- a text of symbols begins with `-` and a range's last symbol, after which this is left
 abbrev pub ReachesTo : Symbol → List Symbol → List Symbol → Type 0
 ReachesTo end rest ls = (link : Symbol) × (ls ≡ link ∷ end ∷ rest) × (is_plain dash link ≡ true) × (is_plain closing_bracket end ≡ false)

@@ -1,4 +1,4 @@
--- How far the reading of a file has come, told by what is there.
+-- How far the reading of a file has come.
 use Rattle.std.specs.Prelude.{List, [], ◌∷◌, Option, None, Some}
 use Rattle.aa_text_variables.specs.Variables.{Variable}
 use Rattle.aa_text_files.specs.declared.text_error.Place.{Place}

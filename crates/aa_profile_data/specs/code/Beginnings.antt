@@ -5,12 +5,12 @@ use denote.Ref.{Bor}
 use Rattle.aa_profile_data.specs.ExecWords.{exec_word}
 use Rattle.aa_profile_data.specs.declared.exec_word.ExecWord.{ExecWord}
 
--- the exec word of three bytes with which a text begins, and what stands behind it
+-- the exec word of three bytes with which a text begins, and what follows it
 abbrev pub word_of_three : List ℕ → Option (ExecWord × List ℕ)
 word_of_three (a ∷ b ∷ c ∷ more) = option_map (λ word. (word, more)) (exec_word (a ∷ b ∷ c ∷ []))
 word_of_three _ = None
 
--- the one of two bytes
+-- the exec word of two bytes with which a text begins, and what follows it
 abbrev pub word_of_two : List ℕ → Option (ExecWord × List ℕ)
 word_of_two (a ∷ b ∷ more) = option_map (λ word. (word, more)) (exec_word (a ∷ b ∷ []))
 word_of_two _ = None

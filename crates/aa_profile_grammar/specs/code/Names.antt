@@ -1,4 +1,4 @@
--- Names that are kept beside the parts that have them.
+-- Names that are kept with the parts that have them.
 use Rattle.std.specs.Prelude.{◌≡◌, ℕ, Bool, List}
 use Rattle.std.specs.Borrow.{Bor}
 use Rattle.std.specs.BTreeSet.{BTreeSet, contains_by}

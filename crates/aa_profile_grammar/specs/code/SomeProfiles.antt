@@ -1,4 +1,4 @@
--- A file as its preamble, and the profiles behind it.
+-- A file as its preamble, followed by the profiles.
 use Rattle.std.specs.Prelude.{if◌then◌else◌, List, None, Result, Ok, Err}
 use Rattle.aa_text_tokens.specs.Splicing.{Placed}
 use Rattle.aa_bytes.specs.Texts.{is_empty}
@@ -8,7 +8,7 @@ use Rattle.aa_profile_parsing.specs.declared.language.Language.{Language}
 use Rattle.aa_profile_parsing.specs.declared.grammar_error.GrammarError.{GrammarError}
 use Rattle.aa_profile_grammar.specs.Blocks.{Profile, all_profiles}
 
--- the profiles from the tokens behind a preamble, of which there must be one, or what is told of the first fault
+-- the profiles from the tokens after a preamble, of which there must be one, or the error for the first fault
 abbrev pub some_profiles : Language → List Placed → Result (List Profile) GrammarError
 some_profiles language tokens = elim (all_profiles language tokens) [
   | Err fault ↦ Err (told fault)

@@ -1,5 +1,5 @@
--- What the code's loop over pieces of an input keeps true: the lines so far, their replies, and what is left of the
--- last line. What `run` promises is in `Run`.
+-- The invariant of the code's loop over pieces of an input: the lines so far, their replies, and what is left of the last line. What `run` promises
+-- is in `Run`.
 use Rattle.std.specs.Prelude.{◌≡◌, ℕ, ◌+◌, Bool, List, [], ◌∷◌, ◌++◌, map, take, Option}
 use Rattle.std.specs.List.{flat_map, slice_split}
 use Rattle.aa_text_files.specs.Files.{File}
@@ -13,8 +13,7 @@ use Rattle.aa_set_commands.specs.Limits.{longest_line}
 use Rattle.aa_set.specs.declared.session.Session.{Session}
 use Rattle.aa_set.specs.declared.session.Summary.{Summary}
 
--- A session is one after these lines, each with its flag; the text of the replies was written to a writer that had `before`
--- and has `now`.
+-- A session after these lines, each with its flag; the text of the replies was written to a writer that had `before` and has `now`.
 pub record IsAfter (files : List File) (begin : Managed) (before now : Option (List ℕ)) (session : Session)
     (lines : List (List ℕ × Bool)) : Type 0 where
   pub managed : session.manager ≡ after_lines files begin lines
@@ -53,7 +52,7 @@ Feeds files old new before after held left more =
     → Follows files begin start old before held input
     → Follows files begin start new after left (input ++ more)
 
--- the same of a line that ends: these last bytes of it, and a line feed
+-- how the end of a line leads from one session to the next, whatever was fed before: these last bytes of it, and a line feed
 abbrev pub EndsLine : List File → (old new : Option (List ℕ)) → Session → Session → List ℕ → List ℕ → List ℕ → Type 0
 EndsLine files old new before after held left last = Feeds files old new before after held left (line_with last)
 
@@ -64,21 +63,21 @@ EndsInput files old new session held summary =
     → Follows files begin start old session held input
     → IsAnswered files begin start new summary input
 
--- how the input that a reader has left leads from a session without any to one that has answered it
+-- how the input that a reader still has leads from a session without any to one that has answered it
 abbrev pub Serves : List File → (left old new : Option (List ℕ)) → Session → List ℕ → Session → Type 0
 Serves files left old new before held after =
     (begin : Managed) (start : Option (List ℕ))
     → Follows files begin start old before held []
     → IsLeftAnswered files begin left start new after.summary
 
--- how answering a line leads from one session to the next, whatever was answered before: with a flag where it found no memory
+-- how answering a line leads from one session to the next, whatever was answered before: with a flag where memory ran out at it
 abbrev pub AnswersLine : List File → (old new : Option (List ℕ)) → Session → Session → List ℕ → Type 0
 AnswersLine files old new before after line =
     (begin : Managed) (start : Option (List ℕ)) (lines : List (List ℕ × Bool))
     → IsAfter files begin start old before lines
     → (flag : Bool) × IsAfter files begin start new after (lines ++ (line, flag) ∷ [])
 
--- what was written is a front of the texts of the replies to some lines, each with its flag, with which the whole lines of an input begin
+-- what was written is a prefix of the text of the replies to some lines, each with its flag, with which the whole lines of an input begin
 pub record IsFrontOfWhole (files : List File) (begin : Managed) (before now : Option (List ℕ)) (input : List ℕ) : Type 0 where
   pub lines : List (List ℕ × Bool)
   pub more : List (List ℕ)
@@ -92,7 +91,8 @@ BreaksOff files old new before held more =
     → Follows files begin start old before held input
     → IsFrontOfWhole files begin start new (input ++ more)
 
--- the same where a line was to be answered, whatever was answered before: with a flag where it found no memory
+-- how a fault of the writer leaves what was written, where a line was to be answered, whatever was answered before: with a flag where memory ran out
+-- at it
 abbrev pub BreaksOffLine : List File → (old new : Option (List ℕ)) → Session → List ℕ → Type 0
 BreaksOffLine files old new before line =
     (begin : Managed) (start : Option (List ℕ)) (lines : List (List ℕ × Bool))
@@ -100,21 +100,21 @@ BreaksOffLine files old new before line =
     → (flag : Bool)
     × AppendsFront start new (flat_map (reply_text files) (replies_to files begin (lines ++ (line, flag) ∷ [])))
 
--- the same where the input's end was to be answered
+-- how a fault of the writer leaves what was written, where the input's end was to be answered
 abbrev pub BreaksOffEnd : List File → (old new : Option (List ℕ)) → Session → List ℕ → Type 0
 BreaksOffEnd files old new before held =
     (begin : Managed) (start : Option (List ℕ)) (input : List ℕ)
     → Follows files begin start old before held input
     → IsFrontAnswered files begin start new input
 
--- how reads that came to no end lead from a session without any: the whole lines that were read are answered
+-- how reads that reached no end lead from a session without any: the whole lines that were read are answered
 abbrev pub StopsAfter : List File → (left_before left_now old new : Option (List ℕ)) → Session → List ℕ → Type 0
 StopsAfter files left_before left_now old new before held =
     (begin : Managed) (start : Option (List ℕ))
     → Follows files begin start old before held []
     → HoldsOfRead left_before left_now (IsAnsweredSoFar files begin start new)
 
--- how a fault of the writer leads from there: a front of the output is written
+-- how a fault of the writer leads from a session without any: a prefix of the output is written
 abbrev pub BreaksAfter : List File → (left_before left_now old new : Option (List ℕ)) → Session → List ℕ → Type 0
 BreaksAfter files left_before left_now old new before held =
     (begin : Managed) (start : Option (List ℕ))

@@ -1,4 +1,4 @@
--- The slots that a change of a policy set exchanges, and the parts that it is made of.
+-- The slots that a change of a policy set exchanges, and its parts.
 use Rattle.std.specs.Prelude.{ℕ, ◌+◌, Bool, false, not, List, [], ◌∷◌, Option, None, Some}
 use Rattle.aa_decide_ready.specs.Entries.{Loaded, is_in_force}
 use Rattle.aa_decide_ready.specs.Slots.{entry_at}
@@ -13,22 +13,22 @@ use Rattle.aa_set_commands.specs.declared.refusal.RefusalKind.TheVariants.{Absen
 use Rattle.aa_set_parts.specs.declared.parts.Content.TheVariants.{Whole}
 use Rattle.aa_set_parts.specs.declared.parts.Part.{Part}
 
--- the slot that a profile comes to: the one where its name was found, or else the next new one
+-- the slot for a profile: the one where its name was found, or else the next new one
 abbrev pub place_for : ℕ → Option ℕ → ℕ
 place_for next None = next
 place_for next (Some slot) = slot
 
--- the next new one behind it
+-- the next new slot after it
 abbrev pub next_behind : ℕ → Option ℕ → ℕ
 next_behind next None = next + 1
 next_behind next (Some slot) = next
 
--- the slots that profiles come to, by those where their names were found
+-- the slots for the profiles, by those where their names were found
 abbrev pub places : ℕ → List (Option ℕ) → List ℕ
 places next [] = []
 places next (found ∷ more) = place_for next found ∷ places (next_behind next found) more
 
--- the next new one behind all of them
+-- the next new slot after all of them
 abbrev pub behind : ℕ → List (Option ℕ) → ℕ
 behind next [] = next
 behind next (found ∷ more) = behind (next_behind next found) more
@@ -56,7 +56,7 @@ is_refused file.Add profiles entries = are_there profiles entries
 is_refused file.Replace profiles entries = some_are_disabled profiles entries
 is_refused file.Remove profiles entries = some_are_absent profiles entries
 
--- and as this
+-- the refusal of a change by the profiles of a file
 abbrev pub refused_as : FileChange → Refusal
 refused_as file.Add = plain Exists
 refused_as file.Replace = plain Disabled

@@ -21,7 +21,7 @@ no_texts = record { texts = []; steps = 1 }
 abbrev pub listed_at : List Listed → ℕ → Listed
 listed_at lists number = slice_index_or lists number no_texts
 
--- each text of a list with each of another behind it: these are gone over once for each text of the first
+-- each text of a list followed by each of another: the second list is gone over once for each text of the first
 abbrev pub with_ends : Listed → Listed → Listed
 with_ends first second = record {
   texts = joined first.texts second.texts;
@@ -35,7 +35,7 @@ with_more first second = record {
   steps = first.steps + second.steps;
 }
 
--- the same, with one step more
+-- the list, with one more step
 abbrev pub one_step_more : Listed → Listed
 one_step_more list = record { texts = list.texts; steps = suc list.steps }
 
@@ -59,28 +59,28 @@ of_node before node = made before node.made
 abbrev pub listed : List Node → List Listed
 listed nodes = grown of_node [] nodes
 
--- the texts of each
+-- the texts of each list
 abbrev pub lists_of : List Node → List (List (List ℕ))
 lists_of nodes = map (λ list. list.texts) (listed nodes)
 
--- a list is made of lists of lower numbers than this
+-- a list is made of lists with lower numbers than this
 abbrev pub IsMadeBefore : ℕ → Made → Type 0
 IsMadeBefore number Nothing = Unit {0}
 IsMadeBefore number (Text bytes) = Unit {0}
 IsMadeBefore number (Joined first second) = (first < number) × (second < number)
 IsMadeBefore number (Both first second) = (first < number) × (second < number)
 
--- each text has so many bytes at least
+-- each text has at least so many bytes
 abbrev pub AreAtLeast : ℕ → List (List ℕ) → Type 0
 AreAtLeast least texts = AllByRecursion (λ text. least ≤ length text) texts
 
--- What a node says of its list is so: that it is one text, and how many bytes each has at least.
+-- What a node says of its list holds: that it is one text, and how many bytes each has at least.
 pub record IsRight (before : List Listed) (node : Node) : Type 0 where
   pub earlier : IsMadeBefore (length before) node.made
   pub single : node.single ≡ true → length (made before node.made).texts ≡ 1
   pub least : AreAtLeast node.least (made before node.made).texts
 
--- of each node, behind others
+-- each of some nodes, after others, is right
 abbrev pub AreRightBehind : List Listed → List Node → Type 0
 AreRightBehind before [] = Unit {0}
 AreRightBehind before (node ∷ nodes) = IsRight before node × AreRightBehind (before ++ of_node before node ∷ []) nodes
@@ -88,17 +88,17 @@ AreRightBehind before (node ∷ nodes) = IsRight before node × AreRightBehind (
 abbrev pub AreRight : List Node → Type 0
 AreRight nodes = AreRightBehind [] nodes
 
--- a list is made of the empty text
+-- a list is made as the empty text
 abbrev pub is_empty_text : Made → Bool
 is_empty_text (Text bytes) = is_empty bytes
 is_empty_text _ = false
 
--- a list is that which two others make where they are joined
+-- a list has the texts that two others have when they are joined
 pub record IsJoined (lists : List (List (List ℕ))) (first second number : ℕ) : Type 0 where
   pub within : number < length lists
   pub value : cut_off (list_at lists number) ≡ cut_off (joined (list_at lists first) (list_at lists second))
 
--- a list is made of no text
+-- a list is made as no text
 abbrev pub is_nothing : Made → Bool
 is_nothing Nothing = true
 is_nothing _ = false

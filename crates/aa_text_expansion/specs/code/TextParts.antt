@@ -1,4 +1,4 @@
--- What a text begins with, as the code cuts it, in the words of its parts.
+-- What a text begins with, as the code cuts it, by its parts.
 use Rattle.std.specs.Prelude.{ℕ, ◌+◌, Bool, false, ◌==◌, ◌&&◌, if◌then◌else◌, List, [], ◌∷◌, map}
 use Rattle.aa_bytes.specs.Bytes.{backslash, opening_brace, at_sign}
 use Rattle.aa_text_expansion.specs.Parts.{Part, Byte, Name, Unclosed}
@@ -16,7 +16,7 @@ abbrev pub begins_name : List ℕ → Bool
 begins_name (b ∷ c ∷ bs) = b == at_sign && c == opening_brace
 begins_name _ = false
 
--- how many bytes stand together where no name begins: a backslash takes the byte behind it along
+-- how many bytes belong together where no name begins: a backslash and the byte after it
 abbrev pub taken : List ℕ → ℕ
 taken (b ∷ c ∷ bs) = if b == backslash then 2 else 1
 taken _ = 1

@@ -1,4 +1,4 @@
--- The pieces of a text, and the bytes that stand together in it.
+-- The pieces of a text, and the bytes in it that belong together.
 use Rattle.std.specs.Prelude.{ℕ, ◌≤◌, ◌≢◌, ◌==◌, ◌&&◌, ◌||◌, Bool, false, not, if◌then◌else◌, List, [], ◌∷◌}
 use Rattle.aa_bytes.specs.Bytes.{backslash, closing_brace, comma, is_blank, line_feed, opening_brace}
 use Rattle.aa_text_tokens.specs.Cut.{Piece as SeenPiece, Token as SeenToken, Comment as SeenComment, Fault as SeenFault, ends_word}
@@ -18,7 +18,7 @@ IsWithin most (Token kind text size) = (1 ≤ size) × (size ≤ most)
 IsWithin most (Comment size) = (1 ≤ size) × (size ≤ most)
 IsWithin most (Fault refusal) = refusal ≢ Memory
 
--- how many bytes stand together at the front of a text: a backslash takes the byte behind it along, unless that is a line feed
+-- how many bytes at the front of a text belong together: a backslash and the byte after it, unless that is a line feed
 abbrev pub taken : List ℕ → ℕ
 taken [] = 1
 taken (b ∷ []) = 1
@@ -32,7 +32,7 @@ starts_piece b = not (is_blank b)
 abbrev pub starts_word : ℕ → Bool
 starts_word b = not (is_blank b) && not (b == comma) && not (b == opening_brace) && not (b == closing_brace)
 
--- a word goes on in a text, within so many braces and behind a byte
+-- a word continues in a text, within so many braces and after this byte
 abbrev pub goes_on : ℕ → ℕ → List ℕ → Bool
 goes_on depth before [] = false
 goes_on depth before (b ∷ bs) = not (is_blank b) && (not (depth == 0) || not (ends_word before b bs))

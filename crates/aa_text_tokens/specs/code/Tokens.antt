@@ -10,6 +10,6 @@ abbrev pub with_tokens : List Seen → Result (List Seen) (CutRefusal × ℕ) �
 with_tokens front (Ok tokens) = Ok (front ++ tokens)
 with_tokens front (Err fault) = Err fault
 
--- the code's tokens so far, and then those of what is left of the source, from a place on
+-- the code's tokens so far, followed by those of what is left of the source, from an offset on
 abbrev pub cut_behind : {A : Type 0} → Vec Token A → ℕ → Bool → List ℕ → Result (List Seen) (CutRefusal × ℕ)
 cut_behind tokens at values text = with_tokens (map seen tokens.items) (cut at 0 values text)

@@ -1,4 +1,4 @@
--- Tables that stand beside an order of variables: what the variable at each index of the order has.
+-- Tables of an order of variables: what the variable at each index of the order has.
 use Rattle.std.specs.Prelude.{ℕ, ◌≡◌, ◌<◌, nat_eq, List, length, map, flat_map, take, position, slice_get, slice_index_or, Option, None, Some}
 use Rattle.aa_text_expansion.specs.Counting.{count_of}
 use Rattle.aa_text_expansion.specs.Joining.{cut_off}
@@ -7,16 +7,16 @@ use Rattle.aa_text_variables.specs.Variables.{Variable}
 use Rattle.aa_text_variables.specs.Expansions.{expansions}
 use Rattle.aa_text_variables.specs.code.VariableIndexes.{index_of, words_at}
 
--- the row of a name's variable in each table that stands beside an order
+-- the row of a name's variable in each table of an order
 abbrev pub row_of : List Variable → List ℕ → List ℕ → Option ℕ
 row_of variables order name = elim (index_of variables name) [ None ↦ None | Some index ↦ position (nat_eq index) order ]
 
--- what a table has in a row, and else this
+-- what a table has in a row, or else this
 abbrev pub row_or : {A : Type 0} → A → List A → Option ℕ → A
 row_or other table None = other
 row_or other table (Some row) = slice_index_or table row other
 
--- what a table has for the variable of a name, and else this
+-- what a table has for the variable of a name, or else this
 abbrev pub looked_up : {A : Type 0} → A → List Variable → List ℕ → List A → List ℕ → A
 looked_up other variables order table name = row_or other table (row_of variables order name)
 
@@ -24,7 +24,7 @@ looked_up other variables order table name = row_or other table (row_of variable
 abbrev pub values_at : List Variable → ℕ → List (List ℕ)
 values_at variables index = flat_map (expansions variables) (words_at variables index)
 
--- how many values the variable at an index has, as far as they are counted
+-- how many values the variable at an index has, up to the bound
 abbrev pub count_at : List Variable → ℕ → ℕ
 count_at variables index = count_of (values_at variables index)
 

@@ -16,7 +16,7 @@ use Rattle.aa_text_variables.specs.declared.variables.table.Rows.{Rows}
 abbrev pub names_undefined_at : List Variable → ℕ → Bool
 names_undefined_at variables index = list_any (names_undefined variables) (words_at variables index)
 
--- no word of the variables of an order does
+-- no word of the variables of an order names one that isn't defined, or doesn't close a name
 abbrev pub AreDefined : List Variable → List ℕ → Type 0
 AreDefined variables order = (index : ℕ) → list_any (nat_eq index) order ≡ true → names_undefined_at variables index ≡ false
 
@@ -28,7 +28,7 @@ pub record IsTable (variables : List Variable) (order counts numbers : List ℕ)
   pub few : length numbers ≤ length order
   pub listed : AreListed variables order numbers lists
 
--- the same of a table in memory
+-- what is known of a table in memory
 abbrev pub AreRows : List Variable → Rows → Type 0
 AreRows variables rows = IsTable variables rows.order.keys rows.counts.items rows.numbers.items rows.lists
 

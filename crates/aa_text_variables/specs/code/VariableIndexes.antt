@@ -1,4 +1,4 @@
--- Variables by their indexes: how many others are defined before each.
+-- Variables by their indices: how many others were defined before each.
 use Rattle.std.specs.Prelude.{ℕ, suc, List, [], ◌∷◌, slice_get, Option, None, Some, option_map, if◌then◌else◌}
 use Rattle.std.specs.Str.{bytes_eq}
 use Rattle.aa_text_variables.specs.Variables.{Variable}

@@ -1,4 +1,4 @@
--- The variables that are kept, and where that of each name stands.
+-- The variables that are stored, and the index of each name.
 use Rattle.std.specs.Prelude.{ℕ, ◌≡◌, ◌++◌, ◌∷◌, [], true, None, List, length, map, Vec}
 use Rattle.std.specs.BTreeMap.{is_at}
 use Rattle.std.specs.Cmp.Lexicographic.{slice_cmp}
@@ -17,7 +17,7 @@ as_variable entry = record { name = entry.0.items; defined = entry.1.defined; ad
 abbrev pub as_variables : {A : Type 0} → List (Vec ℕ A × Values) → List Variable
 as_variables entries = map as_variable entries
 
--- the place that a map has for a name
+-- the index that a map has for a name
 abbrev pub place_of : {A : Type 0} → List ℕ → List (Vec ℕ A × ℕ) → Option ℕ
 place_of name places = lookup (is_at (λ key. slice_cmp nat_cmp name key.items)) places
 
@@ -25,13 +25,13 @@ place_of name places = lookup (is_at (λ key. slice_cmp nat_cmp name key.items))
 abbrev pub ArePlaced : {A : Type 0} → List Variable → List (Vec ℕ A × ℕ) → Type 0
 ArePlaced variables places = (name : List ℕ) → place_of name places ≡ index_of variables name
 
--- a map gets the index of one more variable behind others
+-- the index of one more variable, after others, was added to a map
 abbrev pub IsPlaced : {A : Type 0} → List ℕ → ℕ → List (Vec ℕ A × ℕ) → List (Vec ℕ A × ℕ) → Type 0
 IsPlaced name place before after =
     (variables : List Variable) (more : Variable) → ArePlaced variables before → more.name ≡ name → index_of variables name ≡ None → place ≡ length variables
     → ArePlaced (variables ++ more ∷ []) after
 
--- what is known of entries and of the map beside them
+-- what is known of entries and of the map with them
 pub record AreKept {A : Type 0} (entries : List (Vec ℕ A × Values)) (places : List (Vec ℕ A × ℕ)) : Type 0 where
   pub variables : are_variables (as_variables entries) ≡ true
   pub placed : ArePlaced (as_variables entries) places

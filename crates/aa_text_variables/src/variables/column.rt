@@ -1,4 +1,4 @@
-//! What is worked out for the variables of an order: a table that stands beside it, with a row for each.
+//! What is computed for the variables of an order: a table with a row for each of them.
 
 ghost use Rattle.std.specs.Prelude.{◌≡◌, is_none};
 ghost use Rattle.aa_text_variables.specs.code.Columns.{IsBeside, counts_in, numbers_in};
@@ -9,7 +9,7 @@ use aa_text_expansion::{Counts, Values};
 use indexmap::IndexSet;
 
 impl Variables {
-    // A table with the order that it stands beside.
+    // A table with the order to which its rows belong.
     pub(super) fn beside<'a, T>(
         &'a self,
         order: &'a IndexSet<usize>,
@@ -24,7 +24,7 @@ impl Variables {
         }
     }
 
-    // The row of a name's variable in each table that stands beside an order.
+    // The row of a name's variable in each table of an order.
     pub(super) fn row(&self, order: &IndexSet<usize>, name: &[u8]) -> Option<usize>
         ensures { result ≡ row_of self.now order.now.keys name.now }
     {
@@ -33,7 +33,7 @@ impl Variables {
     }
 }
 
-// A table with the order that it stands beside: counts of values, or numbers of the lists of values. Rows may be missing at its end.
+// A table with the order to which its rows belong: counts of values, or numbers of lists of values. Rows may be missing at its end.
 #[derive(Drop)]
 pub(super) struct Column<'a, T> {
     pub(super) variables: &'a Variables,
@@ -64,7 +64,7 @@ impl Values for Column<'_, usize> {
 }
 
 impl Column<'_, usize> {
-    // Whether it has no list for a name.
+    // Whether a name has no list.
     pub(super) fn lacks(&self, name: &[u8]) -> bool
         ensures { result ≡ is_none (numbers_in self.now name.now) }
     {

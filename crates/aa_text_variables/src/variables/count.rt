@@ -17,7 +17,7 @@ use aa_text_files::TextError;
 use indexmap::IndexSet;
 use std::alloc::AllocError;
 
-// How many values the variable at an index has, by the counts of those that its words name.
+// How many values the variable at an index has, at most 16,385, by the counts of the variables that its words name.
 fn counted_at(counts: &Column<'_, usize>, index: usize) -> usize
     ensures { CountsChoicesWithin (counts_in counts.now) (words_at counts.now.variables.now index) result }
 {
@@ -27,7 +27,8 @@ fn counted_at(counts: &Column<'_, usize>, index: usize) -> usize
 }
 
 impl Variables {
-    /// How many expansions a text has, at least one, where that is less than 16,385, and else 16,385.
+    /// How many expansions a text has, at least one, where that is less than 16,385, and else 16,385. It is the number of texts that `expand`
+    /// returns, where it is less than 16,385.
     ///
     /// # Errors
     ///
@@ -48,7 +49,7 @@ impl Variables {
         Ok(count_text(&self.beside(&order, counts.as_slice()), text))
     }
 
-    // Puts how many values each variable of an order has, as far as they are counted, behind those of the first ones.
+    // Appends how many values each variable of an order has, at most 16,385, to the counts of the first ones.
     pub(super) fn counts(
         &self,
         order: &IndexSet<usize>,

@@ -18,7 +18,7 @@ use aa_text_files::TextError;
 use indexmap::IndexSet;
 use std::alloc::AllocError;
 
-// The list of the values of the variable at an index, by the lists for the names in its words.
+// The list of the values of the variable at an index, by the lists of the names in its words.
 fn listed_at(lists: &mut Lists, held: &Column<'_, usize>, index: usize) -> Result<usize, AllocError>
     requires { AreThere lists.old (numbers_in held.now) }
     ensures { IfOk result (λ number. ExpandsWords lists.old (numbers_in held.now) (words_at held.now.variables.now index) number lists.new) }
@@ -28,10 +28,10 @@ fn listed_at(lists: &mut Lists, held: &Column<'_, usize>, index: usize) -> Resul
 }
 
 impl Variables {
-    /// The expansions of a text, at least one: one for each choice of a value for each name, the first name changing slowest. Of each,
-    /// the first 4,097 bytes are kept.
+    /// The expansions of a text, at least one: one for each choice of a value for each name, the first name changing slowest. Each is cut off after
+    /// its first 4,097 bytes.
     ///
-    /// A caller asks `count` before: there may be more expansions than memory holds.
+    /// Call `count` before: there may be more expansions than memory holds.
     ///
     /// # Errors
     ///
@@ -50,7 +50,7 @@ impl Variables {
         Ok(self.expanded_by(&order, text)?)
     }
 
-    // Those of a text of which each variable is in an order.
+    // The expansions of a text, each of whose variables is in an order.
     fn expanded_by(&self, order: &IndexSet<usize>, text: &[u8]) -> Result<Vec<Vec<u8>>, AllocError>
         requires order { IsOrder self.now order.now.keys }
         requires few { length order.now.keys ≤ length self.now }
@@ -65,7 +65,7 @@ impl Variables {
         lists.texts(number)
     }
 
-    // Makes lists of the values of all variables of an order, where there are those of the first ones, and puts their numbers behind these.
+    // Makes lists of the values of all variables of an order, where the first ones have theirs, and appends the numbers of these lists.
     pub(super) fn list(
         &self,
         order: &IndexSet<usize>,

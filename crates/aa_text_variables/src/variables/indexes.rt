@@ -1,4 +1,4 @@
-//! Variables by their indexes: how many others are defined before each.
+//! Variables by their indices: how many others were defined before each.
 
 ghost use Rattle.std.specs.Prelude.{◌≡◌, ◌<◌, ◌++◌, length, IfSome};
 ghost use Rattle.aa_text_variables.specs.code.VariableIndexes.{index_of, words_at};
@@ -15,7 +15,7 @@ impl Variables {
         self.places.get(name).copied()
     }
 
-    // The words of the variable at an index: those of its first `=`, and those that were added.
+    // The words of the variable at an index: those of its first `=`, and those that were appended.
     pub(super) fn words(&self, index: usize) -> (&[Sequence<u8>], &[Sequence<u8>])
         ensures { result.0.now ++ result.1.now ≡ words_at self.now index }
     {

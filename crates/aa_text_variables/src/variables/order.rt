@@ -12,7 +12,7 @@ use indexmap::IndexSet;
 use std::alloc::AllocError;
 
 impl Variables {
-    // The indexes of the variables that a text leads to, in an order in which each stands behind all that its words name.
+    // The indices of the variables that a text leads to, in an order in which each comes after all that its words name.
     pub(super) fn order(&self, text: &[u8]) -> Result<IndexSet<usize>, TextError>
         ensures order { IfOk result (λ o. IsOrder self.now o.keys) }
         ensures few { IfOk result (λ o. length o.keys ≤ length self.now) }
@@ -30,7 +30,7 @@ impl Variables {
         Ok(order)
     }
 
-    // Puts the variables that a text leads to behind an order, and says whether it leads to no cycle.
+    // Adds the variables that a text leads to at the end of an order, and returns whether it leads to no cycle.
     pub(super) fn walk_text(
         &self,
         text: &[u8],
@@ -45,7 +45,7 @@ impl Variables {
         self.walk(starts.as_slice(), order)
     }
 
-    /// The index, by first definitions, of the first variable that leads to itself, or to one that does.
+    /// The index, in the order of first definitions, of the first variable that leads to itself, or to one that does; `None` where no variable does.
     ///
     /// Names that aren't defined lead nowhere; names before one that isn't closed count.
     ///
@@ -61,7 +61,7 @@ impl Variables {
         Ok(self.first_cyclic(&mut order)?)
     }
 
-    // The same. Puts those before it, and all that they lead to, in an order.
+    // The index of the first variable that leads to a cycle. Appends those before it, and all that they lead to, to an order.
     fn first_cyclic(&self, order: &mut IndexSet<usize>) -> Result<Option<usize>, AllocError>
         requires { order.old.keys ≡ [] }
         ensures { IfOk result (λ index. index ≡ position (is_cyclic self.now) self.now) }

@@ -14,7 +14,7 @@ pub(super) fn names_nothing(text: &[u8]) -> bool
     !has_missing(text, |_| true)
 }
 
-/// A text alone, as far as one is kept.
+/// The list of a text alone, cut off after its first 4,097 bytes.
 pub(super) fn alone(alloc: Global, text: &[u8]) -> Result<Vec<Vec<u8>>, AllocError>
     ensures { IfOk result (λ texts. texts_of texts ≡ take most_kept text.now ∷ []) }
 {

@@ -16,7 +16,7 @@ use aa_text_files::{TextError, TextRefusal, plain};
 use indexmap::IndexSet;
 use std::alloc::AllocError;
 
-// The index that was gathered behind so many others.
+// The index at a position in the set.
 pub(super) fn gathered(reached: &IndexSet<usize>, at: usize) -> Option<usize>
     ensures value { result ≡ slice_get reached.now.keys at }
     ensures fits { IfSome result (λ index. at < 2 ^ 64 - 1) }
@@ -25,14 +25,14 @@ pub(super) fn gathered(reached: &IndexSet<usize>, at: usize) -> Option<usize>
 }
 
 impl Variables {
-    // Gathers the indexes of the variables that a text names, as far as they are defined.
+    // Adds the indices of the variables that a text names, as far as they are defined, to a set.
     pub(super) fn note(&self, text: &[u8], reached: &mut IndexSet<usize>) -> Result<(), AllocError>
         ensures { OnOk result (reached.new.keys ≡ with_indexes reached.old.keys (indexes_in self.now text.now)) }
     {
         gather_numbers(text, |name| self.index_of(name), reached)
     }
 
-    // Gathers the indexes of the variables that the words of the variable at an index name, as far as they are defined.
+    // Adds the indices of the variables that the words of the variable at an index name, as far as they are defined, to a set.
     pub(super) fn note_words(
         &self,
         index: usize,
@@ -45,7 +45,7 @@ impl Variables {
         self.note_all(added, reached)
     }
 
-    // The same of words.
+    // Adds the indices of the variables that words name, as far as they are defined, to a set.
     fn note_all(
         &self,
         words: &[Sequence<u8>],
@@ -64,7 +64,7 @@ impl Variables {
         self.are_undefined(defined) || self.are_undefined(added)
     }
 
-    // Whether one of some words does.
+    // Whether one of some words names a variable that isn't defined, or doesn't close a name.
     fn are_undefined(&self, words: &[Sequence<u8>]) -> bool
         ensures { result ≡ list_any (names_undefined self.now) words.now }
     {
@@ -76,7 +76,7 @@ impl Variables {
         false
     }
 
-    // Refuses a text that leads to a name that isn't defined or isn't closed: looks at all variables that it leads to.
+    // Refuses a text that leads to a name that isn't defined or isn't closed: it looks at all variables that the text leads to.
     pub(super) fn refuse_undefined(&self, text: &[u8]) -> Result<(), TextError>
         ensures variables { OnOk result (are_variables self.now ≡ true) }
         ensures defined { OnOk result (leads_to_undefined self.now text.now ≡ false) }
@@ -101,7 +101,8 @@ impl Variables {
         self.reaches_undefined(text, &mut reached)
     }
 
-    // Whether a text that itself names nothing undefined leads to a name that isn't defined or isn't closed. Gathers what it looks at.
+    // Whether a text that itself names nothing undefined leads to a name that isn't defined or isn't closed. Adds the variables that it looks at to
+    // a set.
     fn reaches_undefined(
         &self,
         text: &[u8],

@@ -1,9 +1,8 @@
-//! A table of what variables stand for, which many texts share.
+//! A table of the values of variables, for expanding many texts.
 //!
-//! Each variable that some text leads to is counted once, and a list of its values is made once, of the lists of those that its words name, when a
-//! text is expanded.
-//! A text that names nothing is its one expansion at once, and the table stays as it is.
-//! What is held decides how long an answer takes, not what it is: for what isn't held a list is made anew.
+//! Each variable that some text leads to is counted once, and a list of its values is made once, of the lists of the variables that its words name,
+//! when a text is expanded. A text that names no variable is its one expansion, and the table stays as it is. What the table holds decides how long
+//! an answer takes, not what it is: for what isn't held a list is made anew.
 
 ghost use Rattle.std.specs.Prelude.{◌≡◌, ◌≢◌, ◌<◌, [], None, Some, IfOk, IfErr, IfSome, OnOk, drop, length, true, false, map, min, take};
 ghost use Rattle.aa_text_expansion.specs.Counting.{most_counted};
@@ -26,13 +25,13 @@ use std::marker::Model;
 // Rows of variables that texts lead to.
 #[derive(Drop)]
 struct Rows {
-    // The indexes of the variables: each stands behind all that its words name.
+    // The indices of the variables: each comes after all that its words name.
     order: IndexSet<usize>,
-    // How many values each has, as far as they are counted.
+    // How many values each has, at most 16,385.
     counts: Vec<usize>,
-    // Lists of texts, those of the values among them.
+    // Lists of texts, those of the variables' values among them.
     lists: Lists,
-    // The number of the list of the values of each.
+    // The number of the list of each variable's values.
     numbers: Vec<usize>,
 }
 
@@ -51,7 +50,7 @@ impl Rows {
         }
     }
 
-    // Without rows.
+    // Removes all rows.
     fn clear(&mut self)
         ensures order { self.new.order.keys ≡ [] }
         ensures counts { self.new.counts.items ≡ [] }
@@ -62,7 +61,7 @@ impl Rows {
 }
 
 impl Variables {
-    // They are variables. It costs nothing.
+    // What a `Variables` holds meets the definition of variables. It does nothing at run time.
     pub(super) fn lawful(&self)
         ensures { are_variables self.now ≡ true }
     {
@@ -81,7 +80,7 @@ impl Variables {
         false
     }
 
-    // Whether one of those behind the first ones of an order does.
+    // Whether a word of one of the variables from position `first` of an order on names a variable that isn't defined, or doesn't close a name.
     fn undefined_behind(&self, order: &IndexSet<usize>, first: usize) -> bool
         ensures { result ≡ list_any (names_undefined_at self.now) (drop first order.now.keys) }
     {
@@ -91,8 +90,7 @@ impl Variables {
         }
     }
 
-    // Puts the variables that a text leads to behind those of the rows, and says whether it leads to no cycle, and to no name that isn't
-    // defined.
+    // Adds rows for the variables that a text leads to, and returns whether it leads to no cycle and to no name that isn't defined.
     fn grow(&self, text: &[u8], rows: &mut Rows) -> Result<bool, AllocError>
         requires { AreRows self.now rows.old }
         ensures { IfOk result (λ there. there ≡ true → HasText self.now text.now rows.new) }
@@ -111,7 +109,7 @@ impl Variables {
         Ok(true)
     }
 
-    // How many expansions a text has, as far as they are counted, by rows that have all that it leads to.
+    // How many expansions a text has, at most 16,385, by rows with all variables that it leads to.
     fn counted(&self, text: &[u8], rows: &Rows) -> usize
         requires { HasText self.now text.now rows.now }
         ensures some { 0 < result }
@@ -123,8 +121,8 @@ impl Variables {
         count_text(&counts, text)
     }
 
-    // How many expansions a text has, by rows that it may add to. They are empty where it leads to something undefined, to a cycle, or where
-    // memory ran out.
+    // How many expansions a text has, at most 16,385, by rows to which variables may be added. The rows are empty afterwards where the text leads to
+    // something undefined or to a cycle, or where memory ran out.
     fn count_by(&self, text: &[u8], rows: &mut Rows) -> Result<usize, TextError>
         requires { AreRows self.now rows.old }
         ensures rows { AreRows self.now rows.new }
@@ -147,7 +145,7 @@ impl Variables {
         }
     }
 
-    // Whether rows have no list for a name of a text.
+    // Whether the rows have no list for a name of a text.
     fn lacks(&self, text: &[u8], rows: &Rows) -> bool
         ensures { result ≡ is_text_lacking (number_of self.now rows.now.order.keys rows.now.numbers.items) text.now }
     {
@@ -155,7 +153,7 @@ impl Variables {
         has_missing(text, |name| held.lacks(name))
     }
 
-    // Puts a list of the expansions of a text among those of the rows, where there is one for each of its names: its number.
+    // Makes a list of the expansions of a text, for each of whose names the rows have a list, and returns its number.
     fn listed(&self, text: &[u8], rows: &mut Rows) -> Result<usize, AllocError>
         requires rows { AreRows self.now rows.old }
         requires listed { is_text_lacking (number_of self.now rows.old.order.keys rows.old.numbers.items) text.now ≡ false }
@@ -165,7 +163,7 @@ impl Variables {
         expand_text(&mut rows.lists, &held, text)
     }
 
-    // The expansions in such a list.
+    // The expansions of a text, for each of whose names the rows have a list.
     fn written(&self, text: &[u8], rows: &mut Rows) -> Result<Vec<Vec<u8>>, AllocError>
         requires rows { AreRows self.now rows.old }
         requires listed { is_text_lacking (number_of self.now rows.old.order.keys rows.old.numbers.items) text.now ≡ false }
@@ -178,7 +176,7 @@ impl Variables {
         Ok(texts)
     }
 
-    // The same, once the rows have a list for each of their variables, or nothing where they have none for a name of the text.
+    // The expansions of a text, once the rows have a list for each of their variables; `None` where they have none for a name of the text.
     fn filled_and_written(
         &self,
         text: &[u8],
@@ -196,7 +194,7 @@ impl Variables {
         Ok(Some(self.written(text, rows)?))
     }
 
-    // The expansions of a text, by rows that it may add to. They are empty where memory ran out for them.
+    // The expansions of a text, by rows to which lists may be added. The rows are empty afterwards where memory ran out for them.
     fn expand_by(&self, text: &[u8], rows: &mut Rows) -> Result<Vec<Vec<u8>>, TextError>
         requires { AreRows self.now rows.old }
         ensures rows { AreRows self.now rows.new }
@@ -220,7 +218,7 @@ impl Variables {
     }
 }
 
-/// What variables stand for, worked out once for many texts.
+/// The values of variables, computed once for many texts. Answers are those of `Variables`.
 #[derive(Drop)]
 pub struct ExpansionTable<'v> {
     variables: &'v Variables,
@@ -236,12 +234,12 @@ impl<'v> Model for ExpansionTable<'v> {
 
     ghost view = { λ t. t.variables.now };
 
-    // What is counted and what is held is right.
+    // The counts and lists of the table are right.
     ghost invariant = { λ t. AreRows t.variables.now t.rows };
 }
 
 impl<'v> ExpansionTable<'v> {
-    /// A table of variables in which nothing is worked out yet. It takes no memory.
+    /// A table for these variables, in which nothing is computed yet. It takes no memory.
     pub fn new(alloc: Global, variables: &'v Variables) -> ExpansionTable<'v>
         ensures { result ≡ variables.now }
     {
@@ -251,7 +249,8 @@ impl<'v> ExpansionTable<'v> {
         }
     }
 
-    /// How many expansions a text has, at least one, where that is less than 16,385, and else 16,385.
+    /// How many expansions a text has, at least one, where that is less than 16,385, and else 16,385. What is computed for it is kept for later
+    /// texts.
     ///
     /// # Errors
     ///
@@ -270,9 +269,9 @@ impl<'v> ExpansionTable<'v> {
         self.variables.count_by(text, &mut self.rows)
     }
 
-    /// The expansions of a text, as `Variables::expand` gives them.
+    /// The expansions of a text, as `Variables::expand` returns them.
     ///
-    /// It is quick for a text that was counted before.
+    /// It is quick for a text that was counted before: the variables' counts and lists are kept.
     ///
     /// # Errors
     ///

@@ -1,4 +1,4 @@
-//! A walk into depth through variables, which puts each behind those that its words name, or finds one that leads to itself.
+//! A depth-first walk through variables, which puts each after those that its words name, or finds one that leads to itself.
 
 ghost use Rattle.std.specs.Prelude.{◌≡◌, ◌++◌, None, Some, IfOk, OnOk, true, false, length, map, if◌then◌else◌};
 ghost use Rattle.aa_text_variables.specs.code.VariableWalks.{AllBelow, IsBeginning, IsSettled, IsWalked, SomeEndless, after_enter};
@@ -10,16 +10,16 @@ use indexmap::IndexSet;
 use std::alloc::AllocError;
 use std::mem;
 
-// What is still to be done on a walk.
+// A task of a walk that isn't done yet.
 #[derive(Clone, Copy)]
 enum Task {
-    // To enter the variable at an index, unless that was done.
+    // To enter the variable at an index, unless it was left already.
     Enter(usize),
-    // To leave it: all that its words name was left.
+    // To leave it: all variables that its words name were left.
     Leave(usize),
 }
 
-// How far a walk has come: what it entered, what is still to be done, the last first, and the order of those that it left.
+// The state of a walk: which variables it entered, its tasks, the next one last, and the order of those that it left.
 #[derive(Drop)]
 struct Walk {
     entered: IndexSet<usize>,
@@ -27,7 +27,7 @@ struct Walk {
     order: IndexSet<usize>,
 }
 
-// Has the variables at some indexes entered, the last of them first.
+// Appends tasks to enter the variables at some indices, the last of them first.
 fn push_all(indexes: &[usize], tasks: &mut Vec<Task>) -> Result<(), AllocError>
     ensures { OnOk result (tasks.new.items ≡ tasks.old.items ++ map Enter indexes.now) }
 {
@@ -38,7 +38,7 @@ fn push_all(indexes: &[usize], tasks: &mut Vec<Task>) -> Result<(), AllocError>
 }
 
 impl Variables {
-    // Has the variables entered that the words of the variable at an index name.
+    // Appends tasks to enter the variables that the words of the variable at an index name.
     fn push_names(&self, index: usize, tasks: &mut Vec<Task>) -> Result<(), AllocError>
         ensures { OnOk result (tasks.new.items ≡ tasks.old.items ++ map Enter (names_at self.now index)) }
     {
@@ -47,8 +47,8 @@ impl Variables {
         push_all(names.as_slice(), tasks)
     }
 
-    // Enters the variable at an index, unless it is in the order, and says whether that can be: one that was entered, and not left, leads to
-    // itself.
+    // Enters the variable at an index, unless it is in the order, and returns whether that can be: a variable that was entered, and not left, leads
+    // to itself.
     fn enter(&self, index: usize, walk: &mut Walk) -> Result<bool, AllocError>
         ensures { IfOk result (λ fine. after_enter self.now index (progress walk.old) ≡ (if fine then Some (progress walk.new) else None)) }
     {
@@ -63,7 +63,7 @@ impl Variables {
         Ok(true)
     }
 
-    // Does a task of a walk, and says whether that can be.
+    // Does a task of a walk, and returns whether that can be.
     fn step(&self, task: Task, walk: &mut Walk) -> Result<bool, AllocError>
         ensures { IfOk result (λ fine. after_task self.now task (progress walk.old) ≡ (if fine then Some (progress walk.new) else None)) }
     {
@@ -76,7 +76,7 @@ impl Variables {
         }
     }
 
-    // Walks from some variables, and says whether none of them leads to a cycle: then they are in the order.
+    // Walks from some variables, and returns whether none of them leads to a cycle: then they are in the order.
     fn finish(&self, starts: &[usize], walk: &mut Walk) -> Result<bool, AllocError>
         requires starts { AllBelow (length self.now) starts.now }
         requires begins { IsBeginning self.now (progress walk.old) }
@@ -92,7 +92,7 @@ impl Variables {
         Ok(true)
     }
 
-    // Puts some variables, and all that they lead to, behind an order, and says whether none of them leads to a cycle.
+    // Appends some variables, and all that they lead to, to an order, and returns whether none of them leads to a cycle.
     pub(super) fn walk(
         &self,
         starts: &[usize],

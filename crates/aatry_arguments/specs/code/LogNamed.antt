@@ -1,4 +1,4 @@
--- What words behind `log` name, as the code holds it.
+-- What words after `log` name, as the code holds it.
 use Rattle.std.specs.Prelude.{option_map, map, string_bytes}
 use Rattle.aatry_arguments.specs.LogWords.{LogNamed}
 use Rattle.aatry_arguments.specs.declared.log_words.LogNamed.{LogNamed as CodeNamed}

@@ -1,4 +1,4 @@
--- What words behind `never` and `always` name, as the code holds it.
+-- What words after `never` and `always` name, as the code holds it.
 use Rattle.std.specs.Prelude.{map, string_bytes}
 use Rattle.aatry_arguments.specs.PathsWords.{PathsLimited}
 use Rattle.aatry_arguments.specs.declared.paths_words.PathsLimited.{PathsLimited as CodeLimited}

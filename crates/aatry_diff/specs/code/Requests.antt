@@ -1,4 +1,4 @@
--- Requests by the file that tells of them, where there is one.
+-- Requests by their file, if there is one.
 use Rattle.std.specs.Prelude.{List, Option, option_map}
 use Rattle.aa_text_files.specs.Files.{File, bytes_at}
 use Rattle.aatry_requests.specs.Gathering.{Gathered, gathered}

@@ -1,4 +1,4 @@
--- Who asks, as the code holds it.
+-- The asker, as the code holds it.
 use Rattle.std.specs.Prelude.{option_map}
 use Rattle.aatry_log_lines.specs.Lines.{Asker, One, Several}
 use Rattle.aatry_log_lines.specs.Values.{seen_text}

@@ -1,4 +1,4 @@
--- The parts of what a slot holds, and the origins that are left behind it.
+-- The parts of what a slot holds, and the origins that are left after it.
 use Rattle.std.specs.Prelude.{List, [], Option, None, Some}
 use Rattle.aa_decide_ready.specs.Entries.{Loaded}
 use Rattle.aatry_policy.specs.Parts.{Part, behind_first, first_of, profile_parts}
@@ -9,7 +9,7 @@ abbrev pub slot_parts : Option Loaded → List Origin → List Part
 slot_parts None origins = []
 slot_parts (Some entry) origins = profile_parts (first_of origins) entry
 
--- the origins of the slots behind it
+-- the origins of the slots after it
 abbrev pub left_behind : Option Loaded → List Origin → List Origin
 left_behind None origins = origins
 left_behind (Some entry) origins = behind_first origins

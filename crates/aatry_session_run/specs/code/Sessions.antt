@@ -6,6 +6,6 @@ use Rattle.aatry_session_run.specs.declared.state.Table.{Table}
 abbrev pub seen_table : Table → State
 seen_table table = record { files = table.files; kept = table.session }
 
--- where a session stands
+-- how far a session has come
 abbrev pub standing : Option (List ℕ) → List ℕ → Option (List ℕ) → Table → Standing
 standing left waits written table = record { left = left; waits = waits; written = written; state = seen_table table }

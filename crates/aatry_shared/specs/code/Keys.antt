@@ -5,7 +5,7 @@ use Rattle.aatry_shared.specs.SeenSharing.{seen_change}
 use Rattle.aatry_shared.specs.Sharing.{Change, same_change}
 use Rattle.aatry_shared.specs.declared.change.Change.{Change as CodeChange}
 
--- what is hashed of a change: equal ones have it equal
+-- what is hashed of a change: equal changes have equal hashes
 abbrev pub hashed : Change → List (List ℕ)
 hashed change = fed.slice fed.u8 change.text ++ (fed.usize change.place.file ++ fed.usize change.place.at)
 
