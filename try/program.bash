@@ -1,5 +1,5 @@
-# The program that a script of this folder asks, and the names of what lies below a folder: sourced by ./build, ./debian, ./example
-# and ./session, which have a folder for what they make, `folder`.
+# The program that a script of this folder asks, and the names of what lies below a folder: sourced by ./build, try/debian, try/example
+# and try/session, which have a folder for what they make, `folder`.
 # shellcheck shell=bash disable=SC2154,SC2034
 
 # Unproved programs are kept here, from one call of a script to the next.
