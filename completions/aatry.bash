@@ -62,6 +62,16 @@ _aatry_offer_letting() {
     esac
 }
 
+# Offers what may stand at the next place of a claim about all paths, of which these words stand there: behind `exec` names alone.
+_aatry_offer_claimed() {
+    case $1:$# in
+    exec:*) _aatry_offer_names unconfined ;;
+    *:1) _aatry_offer 'owner other any' ;;
+    *:2) ;;
+    *) _aatry_offer_names ;;
+    esac
+}
+
 # Offers options of the command.
 _aatry_offer_options() {
     case $1 in
@@ -142,9 +152,9 @@ _aatry() {
         why:0 | who:0) _aatry_offer 'file exec cap net -b' ;;
         why:*) _aatry_offer_asked "${words[@]}" ;;
         who:*) _aatry_offer_letting "${words[@]}" ;;
-        never:1 | always:1) _aatry_offer 'owner other any' ;;
-        never:0 | always:0 | never:2 | always:2) ;;
-        never:* | always:*) _aatry_offer_names ;;
+        never:0) _aatry_offer exec ;;
+        always:0) ;;
+        never:* | always:*) _aatry_offer_claimed "${words[@]}" ;;
         reach:*) _aatry_offer_names unconfined ;;
         diff:*) mapfile -t COMPREPLY < <(compgen -d -- "$word") ;;
         test:* | log:*) mapfile -t COMPREPLY < <(compgen -f -- "$word") ;;

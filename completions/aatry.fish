@@ -119,10 +119,18 @@ function __aatry_claimed
     set -l language
     set -l own
     __aatry_read
-    switch (count $own)
-        case 2
+    # Behind `exec` of `never` come names alone.
+    if test "$own[1..2]" = 'never exec'
+        echo unconfined
+        __aatry_names
+        return
+    end
+    switch $own[1]:(count $own)
+        case 'never:1'
+            echo exec
+        case '*:2'
             printf '%s\n' owner other any
-        case 1 3
+        case 'always:1' '*:3'
         case '*'
             __aatry_names
     end

@@ -53,6 +53,18 @@ _aatry_question() {
     fi
 }
 
+# What may stand at the next place of a claim that something is never so, likewise: behind `exec` names alone.
+_aatry_claimed() {
+    local -a before=("${(@Q)words[1,CURRENT-1]}")
+    case $before[1]:$#before in
+    :0) compadd exec ;;
+    exec:*) _aatry_names unconfined ;;
+    *:1) compadd owner other any ;;
+    *:2) ;;
+    *) _aatry_names ;;
+    esac
+}
+
 # Offers the files of the folder.
 _aatry_files() {
     local -a folders=(${(Q)opt_args[-b]:-/etc/apparmor.d})
@@ -81,7 +93,9 @@ _aatry() {
         '--included[With --rules, tries rules of included files, too]' '--limit=[With --rules, how many sets of states are looked at]:N' \
         '*:NAME: _aatry_files' ;;
     why | who) _arguments -S $base $language $records $verbose $help "*::word: _aatry_question $command" ;;
-    never | always) _arguments -S $base $language $records $verbose $help '--names[Tells no rules]' \
+    never) _arguments -S $base $language $records $verbose $help '--names[Tells no rules]' \
+        '--limit=[How many sets of states are looked at]:N' '*::word: _aatry_claimed' ;;
+    always) _arguments -S $base $language $records $verbose $help '--names[Tells no rules]' \
         '--limit=[How many sets of states are looked at]:N' ':ACCESS' ':OWNED:(owner other any)' ':PATTERN' '*:WHO: _aatry_names' ;;
     reach) _arguments -S $base $language $records $verbose $help '--dot[Tells a graph for graphviz]' \
         '--limit=[How many sets of states are looked at]:N' '*:WHO: _aatry_names unconfined' ;;

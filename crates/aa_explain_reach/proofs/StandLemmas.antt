@@ -24,7 +24,7 @@ abbrev pub ByLength : List Outcome → Type 0
 ByLength outcomes = AllPairs (λ one later. length one.path.items ≤ length later.path.items) outcomes
 
 -- what stands before an outcome has no longer a path
-before-shorter : (done : List Outcome) (o : Outcome) (rest : List Outcome) → ByLength (done ++ o ∷ rest) → (one : Outcome) → Contains done one
+pub before-shorter : (done : List Outcome) (o : Outcome) (rest : List Outcome) → ByLength (done ++ o ∷ rest) → (one : Outcome) → Contains done one
     → length one.path.items ≤ length o.path.items
 before-shorter [] o rest rise one at = absurd (omega (arith, at.1))
 before-shorter (d ∷ done) o rest rise one at = elim (Contains-cons_cases d done one at) [
@@ -37,7 +37,7 @@ before-shorter (d ∷ done) o rest rise one at = elim (Contains-cons_cases d don
 ]
 
 -- the paths of outcomes, and of one behind them
-paths-then : (done : List Outcome) (o : Outcome) → paths_of (done ++ o ∷ []) ≡ paths_of done ++ o.path.items ∷ []
+pub paths-then : (done : List Outcome) (o : Outcome) → paths_of (done ++ o ∷ []) ≡ paths_of done ++ o.path.items ∷ []
 paths-then [] o = refl
 paths-then (d ∷ done) o = ap (λ l. d.path.items ∷ l) (paths-then done o)
 

@@ -122,16 +122,16 @@ wanted-by owned path entries asker (By section Enforcing) goes absolute = by (is
         ap (λ rules. is_somewhere (by_choice path entries asker Enforcing (choice_of rules)).to) silent in
         absurd (true≢false (sym goes ∙ nowhere))
 
-wanted-matched : (owned : Bool) (path : List ℕ) (entries : List Loaded) (asker : Option Asker)
+pub wanted-matched : (owned : Bool) (path : List ℕ) (entries : List Loaded) (asker : Option Asker)
     → is_somewhere (place_to_go entries asker owned path) ≡ true → is_matched (every_pattern ∷ []) path ≡ true → is_matched (wanted_patterns asker) path ≡ true
 wanted-matched owned path entries None goes absolute = absolute
 wanted-matched owned path entries (Some asker) goes absolute = wanted-by owned path entries asker (confinement_of asker) goes absolute
 
-not-true : (b : Bool) → not b ≡ true → b ≡ false
+pub not-true : (b : Bool) → not b ≡ true → b ≡ false
 not-true false h = refl
 not-true true h = absurd cc
 
-or-false : (b : Bool) → (b || false) ≡ true → b ≡ true
+pub or-false : (b : Bool) → (b || false) ≡ true → b ≡ true
 or-false true h = refl
 or-false false h = absurd cc
 

@@ -1,16 +1,18 @@
 -- How the start of programs depends on their paths.
-use Rattle.std.specs.Prelude.{◌≡◌, ℕ, ◌≤◌, Bool, List, Contains, Option, Some, length}
+use Rattle.std.specs.Prelude.{◌≡◌, ℕ, ◌≤◌, Bool, true, List, [], ◌∷◌, Contains, Option, Some, length}
 use Rattle.aa_decide.specs.Exec.{Asker, Started, exec_answer}
 use Rattle.aa_decide.specs.ExecLaws.{HaveDistinctNames}
 use Rattle.aa_decide.specs.SeenExec.{seen_to}
 use Rattle.aa_decide_ready.specs.Entries.{Loaded}
 use Rattle.aa_decide_ready.specs.Slots.{filled}
 use Rattle.aa_explain_paths.specs.Laws.{HavePatternsAmong}
+use Rattle.aa_explain_paths.specs.Meant.{is_matched}
 use Rattle.aa_glob_nfa.specs.Graphs.{AreBytes}
 use Rattle.aa_glob_paths.specs.Laws.{AreMatchedAlike, IsToldOf, StandForAllPaths, StandsFor}
 use Rattle.aa_glob_syntax.specs.Patterns.{IsPatternAt}
-use Rattle.aa_explain_reach.specs.Patterns.{attaching_patterns, own_patterns, start_rules}
-use Rattle.aa_explain_reach.specs.Starts.{AreStartsOf, LeadsTo}
+use Rattle.aa_explain_reach.specs.Patterns.{attaching_patterns, every_pattern, own_patterns, start_rules, wanted_patterns}
+use Rattle.aa_explain_reach.specs.Places.{is_somewhere}
+use Rattle.aa_explain_reach.specs.Starts.{AreStartsOf, LeadsTo, place_to_go}
 use Rattle.aa_explain_reach.specs.declared.start.Start.{Start}
 
 -- each of some patterns is among others
@@ -43,6 +45,12 @@ StartsOfAllPaths =
     → (path : List ℕ) → AreBytes path → IsToldOf patterns classes path
     → (other : List ℕ) × Contains paths other × StandsFor patterns path other
     × ((entries : List Loaded) (asker : Option Asker) → HaveStartPatterns entries asker patterns → AreStartedAlike entries asker path other)
+
+-- a wanted pattern matches each absolute path whose program is started
+abbrev pub StartsAreWanted : Type 0
+StartsAreWanted =
+    (entries : List Loaded) (asker : Option Asker) (owned : Bool) (path : List ℕ)
+    → is_somewhere (place_to_go entries asker owned path) ≡ true → is_matched (every_pattern ∷ []) path ≡ true → is_matched (wanted_patterns asker) path ≡ true
 
 -- Where no two profiles have one name, no shorter path leads where a start does.
 abbrev pub StartsAreShortest : Type 0

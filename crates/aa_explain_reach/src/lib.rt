@@ -15,9 +15,11 @@ mod starters;
 mod starts;
 
 pub use laws::{what_is_not_reached, what_is_reached};
-pub use places::same_to;
+pub use patterns::{attachment_patterns, every_pattern, start_rules, wanted_patterns};
+pub use places::{leads_somewhere, same_to};
 pub use reach::{Reach, reachable_profiles};
 pub use reached::Reached;
+pub use standing::standing_among;
 pub use start::Start;
 pub use start_laws::{how_starts_depend_on_paths, which_starts_are_shortest};
 pub use starts::starts_of;

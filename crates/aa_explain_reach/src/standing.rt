@@ -21,8 +21,13 @@ use aa_glob_pattern::Pattern;
 use aa_profile_data::Rule;
 use std::alloc::{AllocError, Global};
 
-// Paths that stand for all that one of some patterns matches that are wanted, by these, the rules' patterns and others.
-fn standing_among(
+/// Paths that stand for all that one of some patterns matches that are wanted, by these, the rules' patterns and others,
+/// as far as the kernel may ask about them; none where they are too many.
+///
+/// # Errors
+///
+/// Where memory runs out, and where there are more than 4,294,967,295 patterns or states.
+pub fn standing_among(
     alloc: Global,
     rules: &[Rule],
     others: &[Pattern],

@@ -1,5 +1,5 @@
 -- What is done is what the words ask for.
-use Rattle.std.proofs.Common.{◌≡◌, ◌⊎◌, ℕ, Bool, List, [], Result, Ok, Err, IfErr, IfOk, MatchResult, OnOk, inl, inr, refl, string_bytes, subst, sym}
+use Rattle.std.proofs.Common.{◌≡◌, ◌⊎◌, ℕ, Bool, false, true, List, [], Result, Ok, Err, IfErr, IfOk, MatchResult, OnOk, inl, inr, refl, string_bytes, subst, sym}
 use Rattle.aa_profile_parsing.specs.declared.language.Language.{Language}
 use Rattle.aatry_arguments.specs.Arguments.{CommandAsked, ForCheck, ForDiff, ForDiffAll, ForLog, ForPaths, ForReach, ForRules, ForSession, ForTest, ForWho, ForWhy}
 use Rattle.aa_start.specs.Options.{Asked, ForHelp, ForThis, ForVersion, Nothing}
@@ -8,6 +8,7 @@ use Rattle.aa_start.specs.Given.{IsGivenFor}
 use Rattle.aatry_arguments.specs.Given.{meant_call, meant_command}
 use Rattle.aa_start.specs.declared.fault.ArgumentFault.{ArgumentFault}
 use Rattle.aa_start.specs.declared.fault.ArgumentFault.TheVariants.{Help, Version, Bad, Memory}
+use Rattle.aatry_arguments.specs.PathsWords.{AllPathsAsked}
 use Rattle.aatry_arguments.specs.declared.arguments.Call.{Call}
 use Rattle.aatry_folder.specs.Reports.{Report, seen_report}
 use Rattle.aatry_folder.specs.declared.report.Report.{Report as CodeReport}
@@ -20,6 +21,7 @@ use Rattle.aatry.specs.Questions.{IsEndOf, IsToldBelow, words_asking}
 use Rattle.aatry.specs.Status.{status_of}
 use Rattle.aatry.specs.declared.questions.Inquiry.{Inquiry}
 use Rattle.aatry.specs.declared.questions.Inquiry.TheVariants.{Who, Why}
+use Rattle.aatry_never_exec.specs.NeverExec.{IsEnd, IsEndOfClaim, asks_exec}
 use Rattle.aatry_report.specs.declared.form.Form.{Form}
 use Rattle.aatry_requests.specs.AskedWords.{AskNothing}
 use Rattle.aatry_test.proofs.StoreLemmas.{Replaces-none}
@@ -72,6 +74,14 @@ pub session_done : (Had : Type 0) (Broken : Fault → Type 0) (status : ℕ) (ou
 session_done Had Broken status (Ok done) had broken is = inl (had, is)
 session_done Had Broken status (Err fault) had broken is = inr (fault, broken, is)
 
+-- want of memory may end a claim about all paths
+pub memory_ends : (language : Language) (folders : ToldFolders) (known : Known) (asked : AllPathsAsked) → IsEndOfClaim language folders known asked fault.NoMemory
+memory_ends language folders known asked = by (asks_exec asked)
+  where
+    by : (exec : Bool) → IsEnd exec language folders known asked fault.NoMemory
+    by true = tt
+    by false = inl tt
+
 -- where no file was replaced, none was
 none_replaced : (store : Store) → IsKept store → Replaces store.before store.after []
 none_replaced store kept = subst (λ after. Replaces store.before after []) (sym kept) (Replaces-none store.before)
@@ -83,7 +93,7 @@ no_memory_done language form verbose folders known store input (ForCheck check) 
 no_memory_done language form verbose folders known store input (ForTest test) output status kept is = inr (fault.NoMemory, inl (inl tt, none_replaced store kept), is)
 no_memory_done language form verbose folders known store input (ForWho asking) output status kept is = (inr (fault.NoMemory, inl tt, is), kept)
 no_memory_done language form verbose folders known store input (ForWhy asking) output status kept is = (inr (fault.NoMemory, inl tt, is), kept)
-no_memory_done language form verbose folders known store input (ForPaths paths) output status kept is = (inr (fault.NoMemory, inl tt, is), kept)
+no_memory_done language form verbose folders known store input (ForPaths paths) output status kept is = (inr (fault.NoMemory, memory_ends language folders known paths, is), kept)
 no_memory_done language form verbose folders known store input (ForLog logs) output status kept is = (inr (fault.NoMemory, inl tt, is), kept)
 no_memory_done language form verbose folders known store input (ForDiff comparison) output status kept is = (inr (fault.NoMemory, inl tt, is), kept)
 no_memory_done language form verbose folders known store input (ForDiffAll comparison) output status kept is = (inr (fault.NoMemory, inl tt, is), kept)

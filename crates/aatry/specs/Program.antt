@@ -31,10 +31,10 @@ use Rattle.aatry_folder.specs.declared.fault.Fault.{Fault}
 use Rattle.aatry_folder.specs.declared.fault.Fault.TheVariants.{BadArguments, NoMemory}
 use Rattle.aatry_session_run.specs.Broken.{IsBrokenSession}
 use Rattle.aatry_session_run.specs.Session.{IsSession}
-use Rattle.aatry_claims.specs.Ends.{IsEndOfPaths}
-use Rattle.aatry_claims.specs.Never.{IsPathsToldBelow, PathsReport, claim_of, seen_paths_report}
+use Rattle.aatry_claims.specs.Never.{PathsReport, seen_paths_report}
 use Rattle.aatry_claims.specs.declared.never.PathsReport.{PathsReport as CodePathsReport}
 use Rattle.aatry.specs.Status.{failure_status, paths_status, status_of}
+use Rattle.aatry_never_exec.specs.NeverExec.{IsClaimTold, IsEndOfClaim}
 use Rattle.aatry_reach.specs.Reach.{IsEndOfReach, IsReachTold}
 use Rattle.aatry_report.specs.declared.form.Form.{Form}
 use Rattle.aatry_folder.specs.Told.{ToldFolders}
@@ -129,7 +129,7 @@ IsDoneBy language form verbose folders known store input (ForCheck check) output
 IsDoneBy language form verbose folders known store input (ForTest test) output status = IsCommandDone (IsTestedAndReplaced language folders known test.base test.paths test.accept store.before store.after) (IsEndOfTest language folders known test.base test.paths test.accept store.before store.after) output status
 IsDoneBy language form verbose folders known store input (ForWho asking) output status = IsReadingDone (IsWhoToldBelow form verbose language folders known asking.base asking.words) (IsEndOfWho folders asking.base asking.words) store output status
 IsDoneBy language form verbose folders known store input (ForWhy asking) output status = IsReadingDone (IsWhyToldBelow form verbose language folders known asking.base asking.words) (IsEndOfWhy folders asking.base asking.words) store output status
-IsDoneBy language form verbose folders known store input (ForPaths paths) output status = IsPathsDone (IsPathsToldBelow form verbose language folders known paths.asking.base paths.asking.words (claim_of paths.always) paths.names paths.limit) (IsEndOfPaths language folders known paths.asking.base paths.asking.words) output status × IsKept store
+IsDoneBy language form verbose folders known store input (ForPaths paths) output status = IsPathsDone (IsClaimTold form verbose language folders known paths) (IsEndOfClaim language folders known paths) output status × IsKept store
 IsDoneBy language form verbose folders known store input (ForLog logs) output status = IsReadingDone (IsLogToldBelow form verbose language folders known input.left logs) (IsEndOfLog folders known logs) store output status
 IsDoneBy language form verbose folders known store input (ForDiff comparison) output status = IsReadingDone (IsComparedBelow form verbose language folders known comparison) (IsEndOfDiff folders known comparison) store output status
 IsDoneBy language form verbose folders known store input (ForDiffAll comparison) output status = IsPathsDone (ArePathsCompared form verbose language folders known comparison) (IsEndOfPathComparison folders comparison) output status × IsKept store

@@ -2,14 +2,13 @@
 
 ghost use Rattle.std.specs.Prelude.{◌≡◌, ◌≤◌, ◌^◌, MatchResult, drop, map, string_bytes};
 ghost use Rattle.aatry_arguments.specs.Forms.{asked_call};
-ghost use Rattle.aatry_arguments.specs.Given.{meant_command, meant_path_comparison, meant_reach, meant_rules};
+ghost use Rattle.aatry_arguments.specs.Given.{meant_command, meant_path_comparison, meant_paths, meant_reach, meant_rules};
 ghost use Rattle.aa_start.specs.Gathering.{texts_of};
 ghost use Rattle.aatry.specs.Program.{IsCommandDone, IsDone, IsDoneBy, IsFaultShown, IsOutcomeShown, IsPathsDone, IsPathsOutcomeShown, IsSessionDone, IsShown, IsStarted, rules_how};
 ghost use Rattle.aatry.specs.Program.{input_of, output_of, store_of};
 ghost use Rattle.aatry_check_rules.specs.Below.{AreRulesChecked, IsEndOfRules};
 ghost use Rattle.aatry_diff_paths.specs.Below.{ArePathsCompared, IsEndOfPathComparison};
-ghost use Rattle.aatry_claims.specs.Ends.{IsEndOfPaths};
-ghost use Rattle.aatry_claims.specs.Never.{IsPathsToldBelow, claim_of};
+ghost use Rattle.aatry_never_exec.specs.NeverExec.{IsClaimTold, IsEndOfClaim};
 ghost use Rattle.aatry_reach.specs.Reach.{IsEndOfReach, IsReachTold};
 ghost use Rattle.aatry.specs.Questions.{IsEndOf, IsToldBelow};
 ghost use Rattle.aatry.specs.Status.{status_of};
@@ -29,12 +28,13 @@ use aatry_arguments::{
 };
 use aatry_check::check_folder;
 use aatry_check_rules::{RulesHow, check_rules_folder};
-use aatry_claims::{PathsReport, paths_fault, paths_folder};
+use aatry_claims::PathsReport;
 use aatry_diff::diff_folders;
 use aatry_diff_paths::diff_paths_folders;
 use aatry_folder::{Fault, Folders, Report};
 use aatry_hints::hint;
 use aatry_log::log_folder;
+use aatry_never_exec::{claim_fault, claim_folder};
 use aatry_reach::reach_folder;
 use aatry_report::Teller;
 use aatry_session_run::session_folder;
@@ -192,16 +192,15 @@ fn tell_paths<F: Folders, D: FileSystem, S, W: Sink, E: Sink>(
     disk: &D,
     streams: &mut Streams<S, W, E>,
 ) -> u8
-    ensures { IsPathsDone (IsPathsToldBelow teller.form teller.verbose language (F.told folders.now) (D.known disk.now) (string_bytes asked.asking.base)
-        (texts_of asked.asking.words) (claim_of asked.always) asked.names asked.limit)
-        (IsEndOfPaths language (F.told folders.now) (D.known disk.now) (string_bytes asked.asking.base) (texts_of asked.asking.words))
+    ensures { IsPathsDone (IsClaimTold teller.form teller.verbose language (F.told folders.now) (D.known disk.now) (meant_paths asked))
+        (IsEndOfClaim language (F.told folders.now) (D.known disk.now) (meant_paths asked))
         (output_of (W.written streams.old.output) (W.written streams.new.output) (W.failed streams.new.output)) result }
 {
-    match paths_fault(teller.alloc, &asked.asking.words) {
+    match claim_fault(teller.alloc, asked.always, &asked.asking.words) {
         Ok(line) => show_paths(
             teller.alloc,
             &line,
-            paths_folder(teller, language, folders, disk, asked),
+            claim_folder(teller, language, folders, disk, asked),
             streams,
         ),
         Err(_) => report(teller.alloc, &mut streams.errors, &Fault::NoMemory),

@@ -1,5 +1,6 @@
 -- What a comparison of two folders comes to, by how they are loaded, and by their paths.
 use Rattle.std.proofs.Common.{◌≡◌, ℕ, Bool, List, subst}
+use Rattle.aa_decide_ready.specs.Entries.{Loaded}
 use Rattle.aa_profile_parsing.specs.declared.language.Language.{Language}
 use Rattle.aa_start.specs.Gathering.{names_of}
 use Rattle.aa_start.specs.Known.{Known}
@@ -15,16 +16,20 @@ use Rattle.aatry_uncertain.specs.LeftOutHeads.{LeftOutHead}
 use Rattle.aatry_diff_paths.specs.Below.{ArePathsCompared, How, IsCompared, IsFoundTold, how_of}
 
 -- what is found and told is of what equals it
-pub told-by : (form : Form) (how : How) (heads heads' : List LeftOutHead) (old old' new new' : FolderParts) (who who' : List (List ℕ)) (before before' after : List ℕ)
-    (otherwise undecided : Bool)
-    → heads ≡ heads' → old ≡ old' → new ≡ new' → who ≡ who' → before ≡ before'
-    → IsFoundTold form how heads old new who before after otherwise undecided → IsFoundTold form how heads' old' new' who' before' after otherwise undecided
-told-by form how heads heads' old old' new new' who who' before before' after otherwise undecided same-heads same-old same-new same-who same-before told =
-    subst (λ (b : List ℕ). IsFoundTold form how heads' old' new' who' b after otherwise undecided) same-before
-    (subst (λ (w : List (List ℕ)). IsFoundTold form how heads' old' new' w before after otherwise undecided) same-who
-    (subst (λ (n : FolderParts). IsFoundTold form how heads' old' n who before after otherwise undecided) same-new
-    (subst (λ (o : FolderParts). IsFoundTold form how heads' o new who before after otherwise undecided) same-old
-    (subst (λ (h : List LeftOutHead). IsFoundTold form how h old new who before after otherwise undecided) same-heads told))))
+pub told-by : (form : Form) (how : How) (heads heads' : List LeftOutHead) (old old' new new' : FolderParts) (old-set old-set' new-set new-set' : List Loaded)
+    (who who' : List (List ℕ)) (before before' after : List ℕ) (otherwise undecided : Bool)
+    → heads ≡ heads' → old ≡ old' → new ≡ new' → old-set ≡ old-set' → new-set ≡ new-set' → who ≡ who' → before ≡ before'
+    → IsFoundTold form how heads old new old-set new-set who before after otherwise undecided
+    → IsFoundTold form how heads' old' new' old-set' new-set' who' before' after otherwise undecided
+told-by form how heads heads' old old' new new' old-set old-set' new-set new-set' who who' before before' after otherwise undecided
+    same-heads same-old same-new same-old-set same-new-set same-who same-before told =
+    subst (λ (b : List ℕ). IsFoundTold form how heads' old' new' old-set' new-set' who' b after otherwise undecided) same-before
+    (subst (λ (w : List (List ℕ)). IsFoundTold form how heads' old' new' old-set' new-set' w before after otherwise undecided) same-who
+    (subst (λ (s : List Loaded). IsFoundTold form how heads' old' new' old-set' s who before after otherwise undecided) same-new-set
+    (subst (λ (s : List Loaded). IsFoundTold form how heads' old' new' s new-set who before after otherwise undecided) same-old-set
+    (subst (λ (n : FolderParts). IsFoundTold form how heads' old' n old-set new-set who before after otherwise undecided) same-new
+    (subst (λ (o : FolderParts). IsFoundTold form how heads' o new old-set new-set who before after otherwise undecided) same-old
+    (subst (λ (h : List LeftOutHead). IsFoundTold form how h old new old-set new-set who before after otherwise undecided) same-heads told))))))
 
 pub compared : (form : Form) (verbose : Bool) (language : Language) (folders : ToldFolders) (known : Known) (asked : PathComparisonAsked) (told : PathsReport)
     (before after : Folder)

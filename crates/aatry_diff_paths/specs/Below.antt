@@ -1,5 +1,7 @@
 -- What a comparison of two folders of policy for all paths comes to.
 use Rattle.std.specs.Prelude.{◌≡◌, ◌⊎◌, ℕ, Bool, not, List, ◌++◌, Option}
+use Rattle.aa_decide_ready.specs.Entries.{Loaded}
+use Rattle.aa_decide_ready.specs.Slots.{filled}
 use Rattle.aa_profile_parsing.specs.declared.language.Language.{Language}
 use Rattle.aa_text_files.specs.Files.{File}
 use Rattle.aa_start.specs.Gathering.{names_of}
@@ -14,12 +16,13 @@ use Rattle.aatry_folder.specs.Unread.{IsOfFolder}
 use Rattle.aatry_folder.specs.declared.fault.Fault.{Fault}
 use Rattle.aatry_claims.specs.Never.{PathsReport}
 use Rattle.aatry_policy.specs.FolderParts.{FolderParts, by_parts}
-use Rattle.aatry_policy.specs.Folders.{Folder, below, folder_at, left_out_in, left_out_note, seen_folder}
+use Rattle.aatry_policy.specs.Folders.{Folder, below, folder_at, left_out_in, left_out_note, policy_in, seen_folder}
 use Rattle.aatry_policy.specs.Parts.{set_parts}
 use Rattle.aatry_policy.specs.declared.folder.LoadedFolder.{LoadedFolder}
 use Rattle.aatry_report.specs.declared.form.Form.{Form}
 use Rattle.aatry_uncertain.specs.LeftOutHeads.{LeftOutHead, heads_left_out}
 use Rattle.aatry_path_changes.specs.Finding.{AreFound, Found, names_or}
+use Rattle.aatry_path_changes.specs.Starts.{Policies}
 use Rattle.aatry_path_changes.specs.Kinds.{has_otherwise, has_undecided, kinds_of}
 use Rattle.aatry_diff_paths.specs.Summary.{summary_text}
 use Rattle.aatry_diff_paths.specs.Telling.{all_text}
@@ -48,11 +51,14 @@ seen_loaded loaded = record {
 abbrev pub compared_text : Form → How → List LeftOutHead → FolderParts → FolderParts → List Found → List ℕ
 compared_text form how heads old new found = all_text form how.stat heads old new found ++ summary_text form (kinds_of found)
 
--- What is found of those who are compared is right, and is told behind a text; and it is known whether something differs of somebody, and whether nothing is
--- known of the paths of somebody.
-pub record IsFoundTold (form : Form) (how : How) (heads : List LeftOutHead) (old new : FolderParts) (who : List (List ℕ)) (before after : List ℕ) (otherwise undecided : Bool) : Type 0 where
+-- What is found of those who are compared is right, by the parts of both folders and by their policy sets, and is told behind a text; and it is known whether
+-- something differs of somebody, and whether nothing is known of the paths of somebody.
+pub record IsFoundTold (form : Form) (how : How) (heads : List LeftOutHead) (old new : FolderParts) (old_set new_set : List Loaded) (who : List (List ℕ)) (before after : List ℕ) (otherwise undecided : Bool) : Type 0 where
+  pub policies : Policies
+  pub old_loaded : filled policies.old ≡ old_set
+  pub new_loaded : filled policies.new ≡ new_set
   pub found : List Found
-  pub right : AreFound how.quiet how.limit old new (names_or who old new) found
+  pub right : AreFound how.quiet how.limit policies old new (names_or who old new) found
   pub told : after ≡ before ++ compared_text form how heads old new found
   pub differs : otherwise ≡ has_otherwise found
   pub unknown : undecided ≡ has_undecided found
@@ -61,7 +67,7 @@ pub record IsFoundTold (form : Form) (how : How) (heads : List LeftOutHead) (old
 -- out. One failed where something is known to differ of somebody.
 pub record IsCompared (form : Form) (verbose : Bool) (how : How) (who : List (List ℕ)) (old new : Folder) (told : PathsReport) : Type 0 where
   pub otherwise : Bool
-  pub found : IsFoundTold form how (heads_left_out new) (by_parts old) (by_parts new) who (left_out_in form verbose old ++ left_out_in form verbose new) told.report.text otherwise told.undecided
+  pub found : IsFoundTold form how (heads_left_out new) (by_parts old) (by_parts new) (policy_in old) (policy_in new) who (left_out_in form verbose old ++ left_out_in form verbose new) told.report.text otherwise told.undecided
   pub noted : told.report.notes ≡ left_out_note old ++ left_out_note new
   pub counted : told.report.failed ≡ failed_by (not otherwise)
 

@@ -34,6 +34,7 @@ use Rattle.aatry_shared.specs.declared.side.Side.TheVariants.{New, Old}
 use Rattle.aatry_uncertain.specs.LeftOutHeads.{LeftOutHead}
 use Rattle.aatry_path_changes.specs.Finding.{Both, Finding, Found, OfAbsent, OfBoth, OfGone, OfNew}
 use Rattle.aatry_path_changes.specs.Kinds.{is_same, kind_of_both}
+use Rattle.aatry_path_changes.specs.Starts.{StartFound}
 use Rattle.aatry_path_changes.specs.declared.kinds.Kind.{Kind}
 use Rattle.aatry_path_changes.specs.declared.kinds.Kind.TheVariants as kind
 use Rattle.aatry_path_changes.specs.declared.others.Other.{Other}
@@ -158,12 +159,35 @@ modes_text Records name old new = record_line (mode_record name old new)
 abbrev pub mode_text : Form → List ℕ → Option Mode → Option Mode → List ℕ
 mode_text form name old new = if same_state old new then [] else modes_text form name old new
 
+-- where a start leads before and after the change
+unfoldable pub places_text : StartFound → List ℕ
+places_text start = codes ": " ++ shown start.before ++ codes " -> " ++ shown start.after ++ line_feed ∷ []
+
+-- a start that leads elsewhere
+unfoldable pub start_line : StartFound → List ℕ
+start_line start = codes "  start of " ++ shown start.path ++ owner_note start.owned ++ places_text start
+
+unfoldable pub start_record : List ℕ → StartFound → Members
+start_record name start =
+    with_text (codes "after") start.after
+    (with_text (codes "before") start.before
+    (with_text (codes "owned") (owner_word start.owned) (with_text (codes "path") start.path (headed_record (codes "start") name))))
+
+abbrev pub start_text : Form → List ℕ → StartFound → List ℕ
+start_text Lines name start = start_line start
+start_text Records name start = record_line (start_record name start)
+
+abbrev pub starts_text : Form → List ℕ → Option (List StartFound) → List ℕ
+starts_text form name None = []
+starts_text form name (Some starts) = flat_map (start_text form name) starts
+
 -- what is told below the line of parts that both folders have
 unfoldable pub below_text : Form → FolderParts → FolderParts → Both → List ℕ
 below_text form old new both =
     mode_text form both.part.name both.part.section.mode both.other.section.mode
     ++ files_text form old new both.part both.other both.files
     ++ others_text form both.part.name both.others
+    ++ starts_text form both.part.name both.starts
 
 -- the word of what is found; in records it is a kind
 abbrev pub many_word : Form → List ℕ

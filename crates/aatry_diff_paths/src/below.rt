@@ -1,6 +1,7 @@
 //! Two folders of policy on a disk, compared for all paths.
 
 ghost use Rattle.std.specs.Prelude.{◌≡◌, ◌++◌, IfErr, IfOk, OnOk, map, string_bytes};
+ghost use Rattle.aa_decide_ready.specs.Slots.{filled};
 ghost use Rattle.aatry_arguments.specs.Given.{meant_path_comparison};
 ghost use Rattle.aatry_diff_paths.specs.Below.{ArePathsCompared, IsCompared, IsEndOfPathComparison, IsFoundTold, compared_text, seen_how, seen_loaded};
 ghost use Rattle.aatry_path_changes.specs.Finding.{seen_found};
@@ -18,7 +19,9 @@ use aatry_arguments::PathComparison;
 use aatry_changes::Compared;
 use aatry_claims::PathsReport;
 use aatry_folder::{Fault, Folders, PolicyFolder, Report, failed_by, policy_below};
-use aatry_path_changes::{Found, Question, find_asked, has_otherwise, has_undecided, kinds_of};
+use aatry_path_changes::{
+    Found, Policies, Question, find_asked, has_otherwise, has_undecided, kinds_of,
+};
 use aatry_policy::{FolderParts, LoadedFolder, by_parts, load_folder, parts_of};
 use aatry_report::Teller;
 use aatry_uncertain::{LeftOutHeads, heads_left_out};
@@ -71,16 +74,19 @@ fn push_found(
 fn tell_parts(
     teller: Teller,
     asked: Asked,
+    policies: Policies<'_>,
     compared: &Compared<'_>,
     who: &[&[u8]],
     out: &mut Vec<u8>,
 ) -> Result<Outcome, AllocError>
     ensures { IfOk result (λ told. IsFoundTold teller.form (seen_how asked) (all_left_out compared.now.left_out.now.heads.items)
-        (seen_parts compared.now.old.now) (seen_parts compared.now.new.now) (map (λ name. name.now) who.now) out.old.items out.new.items told.otherwise told.undecided) }
+        (seen_parts compared.now.old.now) (seen_parts compared.now.new.now) (filled policies.entry.old.now) (filled policies.entry.new.now)
+        (map (λ name. name.now) who.now) out.old.items out.new.items told.otherwise told.undecided) }
 {
     let question = Question {
         old: compared.old,
         new: compared.new,
+        policies,
         quiet: asked.how.quiet,
         limit: asked.limit,
     };
@@ -96,36 +102,40 @@ fn tell_parts(
 fn tell_both(
     teller: Teller,
     asked: Asked,
+    policies: Policies<'_>,
     left_out: &LeftOutHeads<'_>,
     folders: &BothFolders<'_>,
     who: &[&[u8]],
     out: &mut Vec<u8>,
 ) -> Result<Outcome, AllocError>
     ensures { IfOk result (λ told. IsFoundTold teller.form (seen_how asked) (all_left_out left_out.now.heads.items)
-        (seen_parts folders.now.old) (seen_parts folders.now.new) (map (λ name. name.now) who.now) out.old.items out.new.items told.otherwise told.undecided) }
+        (seen_parts folders.now.old) (seen_parts folders.now.new) (filled policies.entry.old.now) (filled policies.entry.new.now)
+        (map (λ name. name.now) who.now) out.old.items out.new.items told.otherwise told.undecided) }
 {
     let compared = Compared {
         old: &folders.old,
         new: &folders.new,
         left_out,
     };
-    tell_parts(teller, asked, &compared, who, out)
+    tell_parts(teller, asked, policies, &compared, who, out)
 }
 
 // The same by the parts of both, and the new one as it is loaded.
 fn tell_with_left_out(
     teller: Teller,
     asked: Asked,
+    policies: Policies<'_>,
     new: &LoadedFolder<'_>,
     folders: &BothFolders<'_>,
     who: &[&[u8]],
     out: &mut Vec<u8>,
 ) -> Result<Outcome, AllocError>
     ensures { IfOk result (λ told. IsFoundTold teller.form (seen_how asked) (heads_loaded new.now)
-        (seen_parts folders.now.old) (seen_parts folders.now.new) (map (λ name. name.now) who.now) out.old.items out.new.items told.otherwise told.undecided) }
+        (seen_parts folders.now.old) (seen_parts folders.now.new) (filled policies.entry.old.now) (filled policies.entry.new.now)
+        (map (λ name. name.now) who.now) out.old.items out.new.items told.otherwise told.undecided) }
 {
     let left_out = heads_left_out(teller.alloc, new)?;
-    tell_both(teller, asked, &left_out, folders, who, out)
+    tell_both(teller, asked, policies, &left_out, folders, who, out)
 }
 
 // The same of folders that are loaded.
@@ -138,7 +148,8 @@ fn tell_loaded(
     out: &mut Vec<u8>,
 ) -> Result<Outcome, AllocError>
     ensures { IfOk result (λ told. IsFoundTold teller.form (seen_how asked) (heads_loaded new.now)
-        (seen_loaded old.now) (seen_loaded new.now) (map (λ name. name.now) who.now) out.old.items out.new.items told.otherwise told.undecided) }
+        (seen_loaded old.now) (seen_loaded new.now) old.now.policy.manager.machine.now new.now.policy.manager.machine.now
+        (map (λ name. name.now) who.now) out.old.items out.new.items told.otherwise told.undecided) }
 {
     let old_set = old.policy.manager.policy_set();
     let new_set = new.policy.manager.policy_set();
@@ -148,7 +159,11 @@ fn tell_loaded(
         old: by_parts(old.folder, &old_parts),
         new: by_parts(new.folder, &new_parts),
     };
-    tell_with_left_out(teller, asked, new, &folders, who, out)
+    let policies = Policies {
+        old: &old_set.slots(),
+        new: &new_set.slots(),
+    };
+    tell_with_left_out(teller, asked, policies, new, &folders, who, out)
 }
 
 // The bytes of words, none of them copied.
@@ -185,14 +200,14 @@ fn compare(
     })
 }
 
-/// Compares two folders of policy, both by one language, for all paths, capabilities and sockets: reads each folder as `aatry_folder::policy_below` does. Told
+/// Compares two folders of policy, both by one language, for all paths, capabilities, sockets and starts of programs: reads each folder as `aatry_folder::policy_below` does. Told
 /// are the files of either that are left out, where they are told, with a note on how many they are; then the profiles, children and hats of which
 /// something is answered otherwise, and those that one folder alone has; and what sums up. Where words name some, these alone are compared.
 ///
 /// Of somebody whom both folders have it is told in a word whether something is allowed now that wasn't, and something isn't any more (`wider`, `narrower`,
 /// `both`), or whether answers change otherwise alone (`otherwise`), and below that by what: the mode, rules on files that one side alone has, each with a
-/// shortest path on which answers change that it takes part in (`aa_explain_changes::changes_of_files`), capabilities and sockets. Rules are asked as in enforce
-/// mode, and a mode that lets more through is wider. One failed where something differs of somebody, or nobody has a name; and it is undecided where paths are too
+/// shortest path on which answers change that it takes part in (`aa_explain_changes::changes_of_files`), capabilities, sockets, and starts of programs that lead elsewhere, each side in its own mode
+/// (`aa_explain_start_changes::start_changes`). Rules are asked as in enforce mode, and a mode that lets more through is wider. One failed where something differs of somebody, or nobody has a name; and it is undecided where paths are too
 /// many of somebody.
 ///
 /// # Errors

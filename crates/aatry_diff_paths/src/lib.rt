@@ -1,4 +1,4 @@
-//! The command `diff --all`: tells what a change of policy changes for all paths, all capabilities and all sockets, by the profiles, children and hats of two
+//! The command `diff --all`: tells what a change of policy changes for all paths, all capabilities, all sockets and all starts of programs, by the profiles, children and hats of two
 //! folders.
 #![tactic(auto)]
 
@@ -8,5 +8,6 @@ mod summary;
 mod telling;
 mod told_changes;
 mod told_others;
+mod told_starts;
 
 pub use below::diff_paths_folders;

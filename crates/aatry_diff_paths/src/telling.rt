@@ -10,6 +10,7 @@ ghost use Rattle.aatry_uncertain.specs.SeenHeads.{all_left_out};
 
 use crate::told_changes::push_rules;
 use crate::told_others::{push_mode, push_others};
+use crate::told_starts::push_starts;
 use aa_explain_changes::FileChanges;
 use aatry_changes::{Compared, headed_record, push_gone, push_headed};
 use aatry_path_changes::{BothFound, Finding, Found, Kind, is_same, kind_of_both};
@@ -100,7 +101,8 @@ fn push_below(
         out,
     )?;
     push_files(finders, teller, &pair, &both.files, out)?;
-    push_others(teller, name, &both.others, out)
+    push_others(teller, name, &both.others, out)?;
+    push_starts(teller, name, &both.starts, out)
 }
 
 // The word for paths that are too many; in records it is a kind.
@@ -222,12 +224,12 @@ fn push_each(
 }
 
 /// Appends what is told of names to a text, of each in its turn: that the old folder or the new one alone has somebody of it, that nobody has it, or, where both
-/// have and something is answered otherwise, in a word what changes, and below that the modes, rules, capabilities and sockets, unless the words alone are to be
-/// told.
+/// have and something is answered otherwise, in a word what changes, and below that the modes, rules, capabilities, sockets and starts of programs, unless the words
+/// alone are to be told.
 ///
 /// As lines a word and the full name tell somebody, and what is below stands behind blanks. As records these are of the kinds `gone`, `unread`, `new`, `absent`,
 /// `wider`, `narrower`, `both`, `otherwise` and `too_many`, with the full name (`name`), and of the kinds `mode`, `less`, `more`, `path`, `nothing`,
-/// `capability` and `sockets`, each with the full name.
+/// `capability`, `sockets` and `start`, each with the full name.
 ///
 /// # Errors
 ///

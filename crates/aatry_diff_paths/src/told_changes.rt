@@ -18,8 +18,12 @@ use aatry_shared::{SidePart, push_lines};
 use aatry_why_lines::Finder;
 use std::alloc::{AllocError, Global};
 
-// Appends whose file it is to a text, where it is the task's user's.
-fn push_owner(owned: bool, out: &mut Vec<u8>) -> Result<(), AllocError>
+/// Appends whose file it is to a text, where it is the task's user's.
+///
+/// # Errors
+///
+/// Where memory runs out. A beginning may have been appended then.
+pub fn push_owner(owned: bool, out: &mut Vec<u8>) -> Result<(), AllocError>
     ensures { OnOk result (out.new.items ≡ out.old.items ++ owner_note owned) }
 {
     if owned {

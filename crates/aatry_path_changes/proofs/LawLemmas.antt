@@ -19,19 +19,24 @@ use Rattle.aa_explain_changes.specs.declared.change.Change.TheVariants.{Otherwis
 use Rattle.aa_explain_changes.specs.declared.rules.FileChange.{FileChange as CodeFileChange}
 use Rattle.aa_explain_changes.specs.declared.rules.RuleChange.{RuleChange as CodeRuleChange}
 use Rattle.aa_explain_diff.specs.Features.{same_state}
+use Rattle.aa_explain_start_changes.specs.Laws.{NoStartChangeIsHidden, StartAlike}
+use Rattle.aa_explain_start_changes.specs.StartChanges.{AreStartChanges}
+use Rattle.aa_explain_start_changes.specs.Starters.{Starters}
+use Rattle.aa_explain_start_changes.specs.declared.changes.StartChange.{StartChange}
 use Rattle.aa_explain_paths.specs.Claims.{single_letters}
 use Rattle.aa_explain_paths.specs.Meant.{may_be_asked}
 use Rattle.aa_glob_nfa.specs.Graphs.{AreBytes}
 use Rattle.aa_profile_data.specs.declared.profile.Mode.{Mode}
 use Rattle.aa_profile_data.specs.declared.profile.Mode.TheVariants.{Complain as InComplain, Enforce as InEnforce, Unconfined as InUnconfined}
 use Rattle.aatry_path_changes.specs.Finding.{Both, sides_of}
-use Rattle.aatry_path_changes.specs.Kinds.{differs_beside, differs_in_files, gained_beside, is_same, kind_by, kind_of_files, lost_beside, some_told}
+use Rattle.aatry_path_changes.specs.Kinds.{differs_beside, differs_in_files, gained_beside, is_same, kind_by, kind_of_known, lost_beside, some_told}
 use Rattle.aatry_path_changes.specs.Laws.{AnswerAlike, SameAnswerAlike, SayTheSame}
 use Rattle.aatry_path_changes.specs.Others.{answers_of, capability_changes, change_of, changed_by, changed_if, other_change, other_changes, request_of, socket_changes, type_changes}
 use Rattle.aa_explain_changes.specs.declared.change.Answers.{Answers}
 use Rattle.aatry_path_changes.specs.declared.others.Other.{Other}
 use Rattle.aatry_path_changes.specs.declared.others.Other.TheVariants.{Capability, Sockets}
 use Rattle.aatry_path_changes.specs.declared.others.OtherChange.{OtherChange}
+use Rattle.aatry_path_changes.specs.Starts.{AreStartsOf, StartFound, has_gained_start, has_lost_start, start_found, starters_named}
 use Rattle.aatry_policy.specs.Parts.{Part}
 
 not-false : (a : Bool) → not a ≡ false → a ≡ true
@@ -193,14 +198,30 @@ kind-otherwise false true otherwise h = absurd cc
 kind-otherwise true false otherwise h = absurd cc
 kind-otherwise true true otherwise h = absurd cc
 
-alike-by : NoChangeIsHidden → LettersDecideSets → (quiet : Bool) (limit : ℕ) (part other : Part) (both : Both) → both.part ≡ part → both.other ≡ other
-    → both.others ≡ other_changes (sides_of quiet part other)
-    → (files : Option FileChanges) → AreChangesOf (sides_of quiet part other) limit files → is_same (kind_of_files both files) ≡ true → AnswerAlike quiet part other
-alike-by hidden decide quiet limit part other both same also others None right is = absurd cc
-alike-by hidden decide quiet limit part other both same also others (Some files) right is =
+-- where no start is told, all are alike
+no-starts : (starters : Starters) (changes : List StartChange) → is_empty (map (start_found starters) changes) ≡ true → changes ≡ []
+no-starts starters [] h = refl
+no-starts starters (change ∷ changes) h = absurd cc
+
+starts-alike : NoStartChangeIsHidden → (starters : Starters) (limit : ℕ) (starts : List StartFound) → AreStartsOf starters limit (Some starts) → is_empty starts ≡ true
+    → StartAlike starters
+starts-alike hidden starters limit starts right none =
+    hidden starters (subst (AreStartChanges starters) (no-starts starters right.0 (ap is_empty (sym right.2) ∙ none)) right.1)
+
+alike-by : NoChangeIsHidden → LettersDecideSets → NoStartChangeIsHidden → (quiet : Bool) (limit : ℕ) (starters : Starters) (part other : Part) (both : Both)
+    → both.part ≡ part → both.other ≡ other → both.others ≡ other_changes (sides_of quiet part other)
+    → (files : Option FileChanges) → AreChangesOf (sides_of quiet part other) limit files
+    → (starts : Option (List StartFound)) → AreStartsOf starters limit starts
+    → is_same (kind_of_known both files starts) ≡ true → AnswerAlike quiet starters part other
+alike-by hidden decide started quiet limit starters part other both same also others None right starts told is = absurd cc
+alike-by hidden decide started quiet limit starters part other both same also others (Some files) right None told is = absurd cc
+alike-by hidden decide started quiet limit starters part other both same also others (Some files) right (Some starts) told is =
     let sides = sides_of quiet part other in
-    let none : differs_beside both || differs_in_files files ≡ false =
-    kind-otherwise (files.gained || gained_beside both) (files.lost || lost_beside both) (differs_beside both || differs_in_files files) is in
+    let all : (differs_beside both || differs_in_files files) || not (is_empty starts) ≡ false =
+    kind-otherwise ((files.gained || gained_beside both) || has_gained_start starts) ((files.lost || lost_beside both) || has_lost_start starts)
+    ((differs_beside both || differs_in_files files) || not (is_empty starts)) is in
+    let none = (or_parts (differs_beside both || differs_in_files files) (not (is_empty starts)) all).0 in
+    let no-start = not-false (is_empty starts) (or_parts (differs_beside both || differs_in_files files) (not (is_empty starts)) all).1 in
     let beside = (or_parts (differs_beside both) (differs_in_files files) none).0 in
     let mode = not-false (same_state both.part.section.mode both.other.section.mode)
     (or_parts (not (same_state both.part.section.mode both.other.section.mode)) (not (is_empty both.others)) beside).0 in
@@ -217,8 +238,10 @@ alike-by hidden decide quiet limit part other both same also others (Some files)
       capabilities = λ number less. unchanged quiet (Capability number) (answers_of sides (request_of (Capability number))) (capability-none sides 41 number less capabilities);
       sockets = λ domain kind less few. unchanged quiet (Sockets domain kind) (answers_of sides (request_of (Sockets domain kind)))
           (type-none sides domain 6 kind few (socket-none sides 44 domain less sockets));
+      starts = starts-alike started starters limit starts told no-start;
     }
 
-pub same-alike : NoChangeIsHidden → LettersDecideSets → SameAnswerAlike
-same-alike hidden decide quiet limit part other both right is =
-    alike-by hidden decide quiet limit part other both right.part right.other right.others both.files right.files is
+pub same-alike : NoChangeIsHidden → LettersDecideSets → NoStartChangeIsHidden → SameAnswerAlike
+same-alike hidden decide started quiet limit policies part other both right is =
+    alike-by hidden decide started quiet limit (starters_named policies part.name) part other both right.part right.other right.others both.files right.files
+    both.starts right.starts is

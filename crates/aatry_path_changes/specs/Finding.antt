@@ -1,5 +1,5 @@
 -- What a change of policy changes of profiles, children and hats (docs/aatry.md, "`aatry diff --all`").
-use Rattle.std.specs.Prelude.{◌≡◌, ℕ, Bool, false, ◌&&◌, if◌then◌else◌, List, [], ◌∷◌, ◌++◌, filter, map, Option, None, Some}
+use Rattle.std.specs.Prelude.{◌≡◌, ℕ, Bool, false, ◌&&◌, if◌then◌else◌, List, [], ◌∷◌, ◌++◌, filter, map, Option, None, Some, option_map}
 use Rattle.std.specs.List.{All}
 use Rattle.aa_explain_changes.specs.FileChanges.{AreChangesOf}
 use Rattle.aa_explain_changes.specs.Sides.{Side, Sides}
@@ -10,6 +10,7 @@ use Rattle.aatry_policy.specs.FolderParts.{FolderParts}
 use Rattle.aatry_policy.specs.Parts.{Part, part_of}
 use Rattle.aatry_policy.specs.SeenProfiles.{seen_part}
 use Rattle.aatry_path_changes.specs.Others.{other_changes}
+use Rattle.aatry_path_changes.specs.Starts.{AreStartsOf, Policies, StartFound, seen_start, starters_named}
 use Rattle.aatry_path_changes.specs.declared.finding.BothFound.{BothFound}
 use Rattle.aatry_path_changes.specs.declared.finding.Finding.{Finding as CodeFinding}
 use Rattle.aatry_path_changes.specs.declared.finding.Finding.TheVariants as code
@@ -37,12 +38,14 @@ side_if asked part = if asked then side_of part else no_rules
 abbrev pub sides_of : Bool → Part → Part → Sides
 sides_of quiet part other = let asked = ask_rules part other in record { old = side_if asked part; new = side_if asked other; quiet = quiet }
 
--- a part of the old folder, the one of its full name in the new one, what the change changes of files, where paths aren't too many, and of what is no file
+-- a part of the old folder, the one of its full name in the new one, what the change changes of files, where paths aren't too many, and of what is no file; and
+-- the starts of programs that lead elsewhere, where their paths aren't too many
 pub record Both : Type 0 where
   pub part : Part
   pub other : Part
   pub files : Option FileChanges
   pub others : List OtherChange
+  pub starts : Option (List StartFound)
 
 -- nobody has a name; or the old folder alone has somebody of it, or the new one alone, or both have
 pub data Finding : Type 0 where
@@ -57,7 +60,7 @@ pub record Found : Type 0 where
   pub finding : Finding
 
 abbrev pub seen_both : BothFound → Both
-seen_both both = record { part = seen_part both.part.now; other = seen_part both.other.now; files = both.files; others = both.others.items }
+seen_both both = record { part = seen_part both.part.now; other = seen_part both.other.now; files = both.files; others = both.others.items; starts = option_map (λ starts. map seen_start starts.items) both.starts }
 
 abbrev pub seen_finding : CodeFinding → Finding
 seen_finding code.Absent = OfAbsent
@@ -68,23 +71,25 @@ seen_finding (code.Both both) = OfBoth (seen_both both)
 abbrev pub seen_found : CodeFound → Found
 seen_found found = record { name = found.name.items; finding = seen_finding found.finding }
 
--- What is found of two parts is right: what changes of files by the rules of both, within a limit, and all that changes of what is no file.
-pub record IsOfBoth (quiet : Bool) (limit : ℕ) (before now : Part) (both : Both) : Type 0 where
+-- What is found of two parts is right: what changes of files by the rules of both, within a limit, all that changes of what is no file, and, within the limit,
+-- the starts of programs by who has their name that lead elsewhere by the policy sets of both folders.
+pub record IsOfBoth (quiet : Bool) (limit : ℕ) (policies : Policies) (before now : Part) (both : Both) : Type 0 where
   pub part : both.part ≡ before
   pub other : both.other ≡ now
   pub files : AreChangesOf (sides_of quiet before now) limit both.files
   pub others : both.others ≡ other_changes (sides_of quiet before now)
+  pub starts : AreStartsOf (starters_named policies before.name) limit both.starts
 
 -- What is found is right, by the part that the old folder has of a name, and the one that the new one has.
-abbrev pub IsFinding : Bool → ℕ → Option Part → Option Part → Finding → Type 0
-IsFinding quiet limit None None finding = finding ≡ OfAbsent
-IsFinding quiet limit (Some part) None finding = finding ≡ OfGone part
-IsFinding quiet limit None (Some other) finding = finding ≡ OfNew other
-IsFinding quiet limit (Some part) (Some other) finding = (both : Both) × (finding ≡ OfBoth both) × IsOfBoth quiet limit part other both
+abbrev pub IsFinding : Bool → ℕ → Policies → Option Part → Option Part → Finding → Type 0
+IsFinding quiet limit policies None None finding = finding ≡ OfAbsent
+IsFinding quiet limit policies (Some part) None finding = finding ≡ OfGone part
+IsFinding quiet limit policies None (Some other) finding = finding ≡ OfNew other
+IsFinding quiet limit policies (Some part) (Some other) finding = (both : Both) × (finding ≡ OfBoth both) × IsOfBoth quiet limit policies part other both
 
 -- the same of the first parts of a name
-abbrev pub IsFound : Bool → ℕ → FolderParts → FolderParts → Found → Type 0
-IsFound quiet limit old new found = IsFinding quiet limit (part_of old.parts found.name) (part_of new.parts found.name) found.finding
+abbrev pub IsFound : Bool → ℕ → Policies → FolderParts → FolderParts → Found → Type 0
+IsFound quiet limit policies old new found = IsFinding quiet limit policies (part_of old.parts found.name) (part_of new.parts found.name) found.finding
 
 -- the names of parts, and of those of whom something is found
 abbrev pub part_names : List Part → List (List ℕ)
@@ -102,6 +107,6 @@ names_or [] old new = all_names old new
 names_or (name ∷ names) old new = name ∷ names
 
 -- what is found is of those of these names, in their order, and right
-pub record AreFound (quiet : Bool) (limit : ℕ) (old new : FolderParts) (names : List (List ℕ)) (found : List Found) : Type 0 where
-  pub each : All (IsFound quiet limit old new) found
+pub record AreFound (quiet : Bool) (limit : ℕ) (policies : Policies) (old new : FolderParts) (names : List (List ℕ)) (found : List Found) : Type 0 where
+  pub each : All (IsFound quiet limit policies old new) found
   pub named : found_names found ≡ names

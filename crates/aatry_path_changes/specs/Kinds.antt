@@ -11,6 +11,7 @@ use Rattle.aa_profile_data.specs.declared.profile.Mode.{Mode}
 use Rattle.aa_profile_data.specs.declared.profile.Mode.TheVariants.{Complain, Enforce, Unconfined}
 use Rattle.aatry_path_changes.specs.Finding.{Both, Finding, Found, OfAbsent, OfBoth, OfGone, OfNew}
 use Rattle.aatry_path_changes.specs.Others.{has_gained, has_lost, is_gained, is_lost}
+use Rattle.aatry_path_changes.specs.Starts.{StartFound, has_gained_start, has_lost_start}
 use Rattle.aatry_path_changes.specs.declared.kinds.Kind.{Kind}
 use Rattle.aatry_path_changes.specs.declared.kinds.Kind.TheVariants as kind
 
@@ -61,13 +62,19 @@ abbrev pub kind_by : Bool → Bool → Bool → Kind
 kind_by gained lost otherwise =
     if gained then (if lost then kind.Both else kind.Wider) else if lost then kind.Narrower else if otherwise then kind.Otherwise else kind.Same
 
-abbrev pub kind_of_files : Both → Option FileChanges → Kind
-kind_of_files both None = kind.TooMany
-kind_of_files both (Some files) =
-    kind_by (files.gained || gained_beside both) (files.lost || lost_beside both) (differs_beside both || differs_in_files files)
+-- by what changes of files, and by the starts of programs that lead elsewhere
+abbrev pub kind_with : Both → FileChanges → List StartFound → Kind
+kind_with both files starts =
+    kind_by ((files.gained || gained_beside both) || has_gained_start starts) ((files.lost || lost_beside both) || has_lost_start starts)
+    ((differs_beside both || differs_in_files files) || not (is_empty starts))
+
+abbrev pub kind_of_known : Both → Option FileChanges → Option (List StartFound) → Kind
+kind_of_known both (Some files) (Some starts) = kind_with both files starts
+kind_of_known both None starts = kind.TooMany
+kind_of_known both (Some files) None = kind.TooMany
 
 abbrev pub kind_of_both : Both → Kind
-kind_of_both both = kind_of_files both both.files
+kind_of_both both = kind_of_known both both.files both.starts
 
 -- what is found, in a word
 abbrev pub kind_of : Finding → Kind
@@ -87,23 +94,35 @@ is_same kind.New = false
 is_same kind.TooMany = false
 is_same kind.Absent = false
 
+-- paths are too many, of files or of starts
+abbrev pub is_unknown : Both → Bool
+is_unknown both = not (is_some both.files) || not (is_some both.starts)
+
 -- nothing is known of the paths of somebody
 abbrev pub is_undecided : Finding → Bool
 is_undecided OfAbsent = false
 is_undecided (OfGone part) = false
 is_undecided (OfNew part) = false
-is_undecided (OfBoth both) = not (is_some both.files)
+is_undecided (OfBoth both) = is_unknown both
 
 -- it is known that something differs of somebody: he is gone or new, or nobody has the name, or something is answered otherwise
-abbrev pub files_differ : Both → Option FileChanges → Bool
-files_differ both None = differs_beside both
-files_differ both (Some files) = not (is_same (kind_of_files both (Some files)))
+abbrev pub files_differ : Option FileChanges → Bool
+files_differ None = false
+files_differ (Some files) = differs_in_files files
+
+abbrev pub starts_differ : Option (List StartFound) → Bool
+starts_differ None = false
+starts_differ (Some starts) = not (is_empty starts)
+
+abbrev pub both_differ : Both → Bool
+both_differ both =
+    if is_unknown both then (differs_beside both || files_differ both.files) || starts_differ both.starts else not (is_same (kind_of_both both))
 
 abbrev pub is_otherwise : Finding → Bool
 is_otherwise OfAbsent = true
 is_otherwise (OfGone part) = true
 is_otherwise (OfNew part) = true
-is_otherwise (OfBoth both) = files_differ both both.files
+is_otherwise (OfBoth both) = both_differ both
 
 -- the same of somebody among some
 abbrev pub has_undecided : List Found → Bool

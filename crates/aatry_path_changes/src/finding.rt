@@ -4,11 +4,13 @@ ghost use Rattle.std.specs.Prelude.{◌≡◌, ◌++◌, ◌∷◌, [], IfOk, On
 ghost use Rattle.std.specs.List.{All};
 ghost use Rattle.aa_explain_changes.specs.Sides.{seen_side, seen_sides};
 ghost use Rattle.aatry_path_changes.specs.Finding.{AreFound, IsFinding, IsFound, IsOfBoth, ask_rules, found_names, names_or, seen_both, seen_finding, seen_found, side_if, sides_of};
+ghost use Rattle.aatry_path_changes.specs.Starts.{seen_policies};
 ghost use Rattle.aatry_policy.specs.FolderParts.{seen_folder};
 ghost use Rattle.aatry_policy.specs.SeenProfiles.{seen_part};
 
 use crate::names::names_asked;
 use crate::others::{OtherChange, other_changes};
+use crate::starts::{Policies, StartFound, find_starts};
 use aa_explain_changes::{FileChanges, Side, Sides, changes_of_files};
 use aatry_claims::asks_rules;
 use aatry_policy::{FolderParts, Part, part_of};
@@ -25,6 +27,8 @@ pub struct BothFound<'a> {
     pub files: Option<FileChanges<'a>>,
     /// What is answered otherwise of what is no file.
     pub others: Vec<OtherChange>,
+    /// The starts of programs that lead elsewhere; none, where their paths are too many.
+    pub starts: Option<Vec<StartFound>>,
 }
 
 /// What is found of a full name.
@@ -56,6 +60,8 @@ pub struct Question<'a> {
     pub old: &'a FolderParts<'a>,
     /// The new one.
     pub new: &'a FolderParts<'a>,
+    /// The policy sets of both.
+    pub policies: Policies<'a>,
     /// Whether answers are the same that differ in how they are logged alone.
     pub quiet: bool,
     /// How many sets of states are looked at, at most, for each profile, child or hat.
@@ -105,16 +111,23 @@ fn both_found<'a>(
     part: &'a Part<'a>,
     other: &'a Part<'a>,
 ) -> Result<BothFound<'a>, AllocError>
-    ensures { IfOk result (λ both. IsOfBoth question.entry.quiet question.entry.limit (seen_part part.now) (seen_part other.now) (seen_both both)) }
+    ensures { IfOk result (λ both. IsOfBoth question.entry.quiet question.entry.limit (seen_policies question.entry.policies) (seen_part part.now) (seen_part other.now) (seen_both both)) }
 {
     let sides = sides_of(question.quiet, part, other);
     let files = changes_of_files(alloc, sides, question.limit)?;
     let others = other_changes(alloc, sides)?;
+    let starts = find_starts(
+        alloc,
+        question.policies,
+        part.name.as_slice(),
+        question.limit,
+    )?;
     Ok(BothFound {
         part,
         other,
         files,
         others,
+        starts,
     })
 }
 
@@ -125,7 +138,7 @@ fn finding_by<'a>(
     part: Option<&'a Part<'a>>,
     other: Option<&'a Part<'a>>,
 ) -> Result<Finding<'a>, AllocError>
-    ensures { IfOk result (λ finding. IsFinding question.entry.quiet question.entry.limit
+    ensures { IfOk result (λ finding. IsFinding question.entry.quiet question.entry.limit (seen_policies question.entry.policies)
         (option_map (λ part. seen_part part.now) part.entry) (option_map (λ part. seen_part part.now) other.entry) (seen_finding finding)) }
 {
     match (part, other) {
@@ -141,7 +154,7 @@ fn finding_by<'a>(
 
 // What is found of a name.
 fn found_of<'a>(alloc: Global, question: Question<'a>, name: &[u8]) -> Result<Found<'a>, AllocError>
-    ensures found { IfOk result (λ found. IsFound question.entry.quiet question.entry.limit (seen_folder question.entry.old.now) (seen_folder question.entry.new.now) (seen_found found)) }
+    ensures found { IfOk result (λ found. IsFound question.entry.quiet question.entry.limit (seen_policies question.entry.policies) (seen_folder question.entry.old.now) (seen_folder question.entry.new.now) (seen_found found)) }
     ensures name { IfOk result (λ found. (seen_found found).name ≡ name.now) }
 {
     let part = part_of(question.old.parts, name);
@@ -161,8 +174,8 @@ fn push_found<'a>(
     out: &mut Vec<Found<'a>>,
 ) -> Result<(), AllocError>
     ensures names { OnOk result (found_names (map seen_found out.new.items) ≡ found_names (map seen_found out.old.items) ++ name.now ∷ []) }
-    ensures found { All (IsFound question.entry.quiet question.entry.limit (seen_folder question.entry.old.now) (seen_folder question.entry.new.now)) (map seen_found out.old.items)
-        → OnOk result (All (IsFound question.entry.quiet question.entry.limit (seen_folder question.entry.old.now) (seen_folder question.entry.new.now)) (map seen_found out.new.items)) }
+    ensures found { All (IsFound question.entry.quiet question.entry.limit (seen_policies question.entry.policies) (seen_folder question.entry.old.now) (seen_folder question.entry.new.now)) (map seen_found out.old.items)
+        → OnOk result (All (IsFound question.entry.quiet question.entry.limit (seen_policies question.entry.policies) (seen_folder question.entry.old.now) (seen_folder question.entry.new.now)) (map seen_found out.new.items)) }
 {
     let found = found_of(alloc, question, name)?;
     out.push(found)?;
@@ -179,7 +192,7 @@ pub fn find<'a>(
     question: Question<'a>,
     names: &[Vec<u8>],
 ) -> Result<Vec<Found<'a>>, AllocError>
-    ensures { IfOk result (λ found. AreFound question.entry.quiet question.entry.limit (seen_folder question.entry.old.now) (seen_folder question.entry.new.now)
+    ensures { IfOk result (λ found. AreFound question.entry.quiet question.entry.limit (seen_policies question.entry.policies) (seen_folder question.entry.old.now) (seen_folder question.entry.new.now)
         (map (λ name. name.items) names.now) (map seen_found found.items)) }
 {
     let mut found = Vec::new(alloc);
@@ -202,7 +215,7 @@ pub fn find_asked<'a>(
     question: Question<'a>,
     who: &[&[u8]],
 ) -> Result<Vec<Found<'a>>, AllocError>
-    ensures { IfOk result (λ found. AreFound question.entry.quiet question.entry.limit (seen_folder question.entry.old.now) (seen_folder question.entry.new.now)
+    ensures { IfOk result (λ found. AreFound question.entry.quiet question.entry.limit (seen_policies question.entry.policies) (seen_folder question.entry.old.now) (seen_folder question.entry.new.now)
         (names_or (map (λ name. name.now) who.now) (seen_folder question.entry.old.now) (seen_folder question.entry.new.now)) (map seen_found found.items)) }
 {
     let names = names_asked(alloc, question.old, question.new, who)?;

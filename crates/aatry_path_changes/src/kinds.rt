@@ -1,12 +1,14 @@
 //! In a word, what a change of policy changes of a profile, child or hat.
 
-ghost use Rattle.std.specs.Prelude.{◌≡◌, IfOk, map};
+ghost use Rattle.std.specs.Prelude.{◌≡◌, IfOk, map, option_map};
 ghost use Rattle.aa_explain_diff.specs.Features.{same_state};
 ghost use Rattle.aatry_path_changes.specs.Finding.{OfBoth, seen_both, seen_finding, seen_found};
-ghost use Rattle.aatry_path_changes.specs.Kinds.{differs_beside, differs_in_files, gained_beside, has_otherwise, has_undecided, is_otherwise, is_same, is_undecided, kind_by, kind_of, kind_of_both, kinds_of, lost_beside, mode_change, some_told};
+ghost use Rattle.aatry_path_changes.specs.Kinds.{differs_beside, differs_in_files, files_differ, gained_beside, has_otherwise, has_undecided, is_otherwise, is_same, is_undecided, is_unknown, kind_by, kind_of, kind_of_both, kind_with, kinds_of, lost_beside, mode_change, some_told, starts_differ};
+ghost use Rattle.aatry_path_changes.specs.Starts.{seen_start};
 
 use crate::finding::{BothFound, Finding, Found};
 use crate::others::{has_gained, has_lost, is_gained, is_lost};
+use crate::starts::{StartFound, has_gained_start, has_lost_start};
 use aa_explain_changes::{Change, FileChanges, RuleChange};
 use aa_explain_diff::Feature;
 use aa_profile_data::Mode;
@@ -17,20 +19,21 @@ use std::alloc::{AllocError, Global};
 pub enum Kind {
     /// Nothing is answered otherwise.
     Same,
-    /// Something is allowed now that wasn't, or the mode lets more through, and nothing isn't any more.
+    /// Something is allowed now that wasn't, a program is started now that wasn't, or the mode lets more through, and
+    /// nothing isn't any more.
     Wider,
     /// The other way round.
     Narrower,
     /// There is both.
     Both,
-    /// Neither: answers are logged otherwise, or denied where they were refused, or the other way round, or it is disabled and was in mode unconfined, or the
-    /// other way round.
+    /// Neither: answers are logged otherwise, or denied where they were refused, or the other way round, a program is
+    /// started to run elsewhere, or it is disabled and was in mode unconfined, or the other way round.
     Otherwise,
     /// The old folder alone has somebody of the name.
     Gone,
     /// The new folder alone has.
     New,
-    /// Both have, and paths are too many.
+    /// Both have, and paths are too many, of files or of starts.
     TooMany,
     /// Nobody has the name.
     Absent,
@@ -118,18 +121,23 @@ fn kind_by(gained: bool, lost: bool, otherwise: bool) -> Kind
     }
 }
 
+// The word by what changes of files, and by the starts of programs that lead elsewhere.
+fn kind_with(both: &BothFound<'_>, files: &FileChanges<'_>, starts: &[StartFound]) -> Kind
+    ensures { result ≡ kind_with (seen_both both.now) files.now (map seen_start starts.now) }
+{
+    let gained = files.gained || gained_beside(both) || has_gained_start(starts);
+    let lost = files.lost || lost_beside(both) || has_lost_start(starts);
+    let otherwise = differs_beside(both) || differs_in_files(files) || !starts.is_empty();
+    kind_by(gained, lost, otherwise)
+}
+
 /// The word for parts that both folders have.
 pub fn kind_of_both(both: &BothFound<'_>) -> Kind
     ensures { result ≡ kind_of_both (seen_both both.now) }
 {
-    match &both.files {
-        None => Kind::TooMany,
-        Some(files) => {
-            let gained = files.gained || gained_beside(both);
-            let lost = files.lost || lost_beside(both);
-            let otherwise = differs_beside(both) || differs_in_files(files);
-            kind_by(gained, lost, otherwise)
-        }
+    match (&both.files, &both.starts) {
+        (Some(files), Some(starts)) => kind_with(both, files, starts),
+        _ => Kind::TooMany,
     }
 }
 
@@ -162,13 +170,40 @@ pub fn is_same(kind: Kind) -> bool
     }
 }
 
+// Whether paths are too many, of files or of starts.
+fn is_unknown(both: &BothFound<'_>) -> bool
+    ensures { result ≡ is_unknown (seen_both both.now) }
+{
+    both.files.is_none() || both.starts.is_none()
+}
+
 // Whether nothing is known of the paths of somebody.
 fn is_undecided(finding: &Finding<'_>) -> bool
     ensures { result ≡ is_undecided (seen_finding finding.now) }
 {
     match finding {
         Finding::Absent | Finding::Gone(_) | Finding::New(_) => false,
-        Finding::Both(both) => both.files.is_none(),
+        Finding::Both(both) => is_unknown(both),
+    }
+}
+
+// Whether it is known that something is answered otherwise of files.
+fn files_differ(files: &Option<FileChanges<'_>>) -> bool
+    ensures { result ≡ files_differ files.now }
+{
+    match files {
+        None => false,
+        Some(files) => differs_in_files(files),
+    }
+}
+
+// Whether it is known that a start leads elsewhere.
+fn starts_differ(starts: &Option<Vec<StartFound>>) -> bool
+    ensures { result ≡ starts_differ (option_map (λ starts. map seen_start starts.items) starts.now) }
+{
+    match starts {
+        None => false,
+        Some(starts) => !starts.is_empty(),
     }
 }
 
@@ -176,8 +211,8 @@ fn is_undecided(finding: &Finding<'_>) -> bool
 fn both_differ(both: &BothFound<'_>) -> bool
     ensures { result ≡ is_otherwise (OfBoth (seen_both both.now)) }
 {
-    if both.files.is_none() {
-        return differs_beside(both);
+    if is_unknown(both) {
+        return differs_beside(both) || files_differ(&both.files) || starts_differ(&both.starts);
     }
     !is_same(kind_of_both(both))
 }

@@ -54,20 +54,20 @@ unfoldable pub reached_line : (place from : List ℕ) → Node → List ℕ
 reached_line place from node =
     codes "  " ++ shown place ++ codes ": " ++ shown from ++ codes " starts " ++ shown node.start.path.items ++ owner_note node.start.owned ++ line_feed ∷ []
 
-unfoldable pub reached_record : (name place from : List ℕ) → Node → Members
-reached_record name place from node =
+unfoldable pub reached_record : (kind name place from : List ℕ) → Node → Members
+reached_record kind name place from node =
     with_text (codes "owned") (owner_word node.start.owned)
     (with_text (codes "path") node.start.path.items
-    (with_text (codes "from") from (with_text (codes "place") place (headed_record (codes "reached") name))))
+    (with_text (codes "from") from (with_text (codes "place") place (headed_record kind name))))
 
-abbrev pub reached_by : Form → (name place from : List ℕ) → Node → List ℕ
-reached_by Lines name place from node = reached_line place from node
-reached_by Records name place from node = record_line (reached_record name place from node)
+abbrev pub reached_by : Form → (kind name place from : List ℕ) → Node → List ℕ
+reached_by Lines kind name place from node = reached_line place from node
+reached_by Records kind name place from node = record_line (reached_record kind name place from node)
 
--- the same of a node among all
-abbrev pub node_told : Form → List (Option Loaded) → List ℕ → List Node → Node → List ℕ
-node_told form slots name nodes node =
-    reached_by form name (place_text slots node.start.to) (from_text slots name nodes node.from) node
+-- the same of a node among all, with the kind of its record
+abbrev pub node_told : Form → List (Option Loaded) → (kind name : List ℕ) → List Node → Node → List ℕ
+node_told form slots kind name nodes node =
+    reached_by form kind name (place_text slots node.start.to) (from_text slots name nodes node.from) node
 
 -- who starts programs whose paths are too many
 unfoldable pub many_line : List ℕ → List ℕ
@@ -97,7 +97,7 @@ heading Records name count = record_line (heading_record name count)
 -- all that is told of them
 abbrev pub reach_told : Form → List (Option Loaded) → List ℕ → Reach → List ℕ
 reach_told form slots name reach =
-    heading form name (length reach.nodes.items) ++ flat_map (node_told form slots name reach.nodes.items) reach.nodes.items
+    heading form name (length reach.nodes.items) ++ flat_map (node_told form slots (codes "reached") name reach.nodes.items) reach.nodes.items
     ++ flat_map (many_told form slots name reach.nodes.items) reach.unknown.items
 
 -- nobody has a name

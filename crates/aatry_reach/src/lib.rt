@@ -7,4 +7,7 @@ mod places;
 mod reach;
 mod telling;
 
-pub use reach::reach_folder;
+pub use finding::{Finding, Found, find};
+pub use places::place_text;
+pub use reach::{reach_folder, slices_of};
+pub use telling::push_node;

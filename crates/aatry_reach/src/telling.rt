@@ -1,6 +1,6 @@
 //! What is told of places that are reached, in lines and in records.
 
-ghost use Rattle.std.specs.Prelude.{◌≡◌, ◌++◌, IfOk, OnOk, flat_map, map};
+ghost use Rattle.std.specs.Prelude.{◌≡◌, ◌++◌, IfOk, OnOk, codes, flat_map, map};
 ghost use Rattle.aatry_reach.specs.Finding.{seen_found};
 ghost use Rattle.aatry_reach.specs.Telling.{absent_told, all_told, finding_told, found_told, heading, heading_line, heading_record, many_by, many_line, many_record, many_told, node_told, owner_note, reach_told, reached_by, reached_line, reached_record};
 ghost use Rattle.aatry_report.specs.SeenRecord.{seen_record};
@@ -49,14 +49,15 @@ fn push_reached_line(
 #[tactic(auto, unfolding(crate::specs::Telling::reached_record))]
 fn reached_record(
     alloc: Global,
+    kind: &str,
     name: &[u8],
     place: &[u8],
     from: &[u8],
     node: &Reached<'_>,
 ) -> Result<Record, AllocError>
-    ensures { IfOk result (λ made. seen_record made ≡ reached_record name.now place.now from.now node.now) }
+    ensures { IfOk result (λ made. seen_record made ≡ reached_record kind.now name.now place.now from.now node.now) }
 {
-    let mut made = headed_record(alloc, "reached", name)?;
+    let mut made = headed_record(alloc, kind, name)?;
     made.put_text(alloc, "place", place)?;
     made.put_text(alloc, "from", from)?;
     made.put_text(alloc, "path", &node.start.path)?;
@@ -67,39 +68,46 @@ fn reached_record(
 // Appends what is told of it.
 fn push_reached(
     teller: Teller,
+    kind: &str,
     name: &[u8],
     place: &[u8],
     from: &[u8],
     node: &Reached<'_>,
     out: &mut Vec<u8>,
 ) -> Result<(), AllocError>
-    ensures { OnOk result (out.new.items ≡ out.old.items ++ reached_by teller.form name.now place.now from.now node.now) }
+    ensures { OnOk result (out.new.items ≡ out.old.items ++ reached_by teller.form kind.now name.now place.now from.now node.now) }
 {
     match teller.form {
         Form::Lines => push_reached_line(place, from, node, out),
         Form::Records => {
-            reached_record(teller.alloc, name, place, from, node)?.push(teller.alloc, out)
+            reached_record(teller.alloc, kind, name, place, from, node)?.push(teller.alloc, out)
         }
     }
 }
 
-// The same of a node among all.
-fn push_node(
+/// Appends what is told of a place that is reached, of a node among all, to a text: the place, who starts a program that runs there, and its path; as a
+/// record of a kind.
+///
+/// # Errors
+///
+/// Where memory runs out. A beginning may have been appended then.
+pub fn push_node(
     teller: Teller,
     slots: &IndexedSlots<'_>,
+    kind: &str,
     name: &[u8],
     nodes: &[Reached<'_>],
     node: &Reached<'_>,
     out: &mut Vec<u8>,
 ) -> Result<(), AllocError>
-    ensures { OnOk result (out.new.items ≡ out.old.items ++ node_told teller.form slots.now name.now nodes.now node.now) }
+    ensures { OnOk result (out.new.items ≡ out.old.items ++ node_told teller.form slots.now kind.now name.now nodes.now node.now) }
 {
     let place = place_text(teller.alloc, slots, node.start.to)?;
     let from = from_text(teller.alloc, slots, name, nodes, node.from)?;
-    push_reached(teller, name, &place, &from, node, out)
+    push_reached(teller, kind, name, &place, &from, node, out)
 }
 
-// The same of all nodes.
+// Appends what is told of all nodes.
 fn push_nodes(
     teller: Teller,
     slots: &IndexedSlots<'_>,
@@ -107,11 +115,11 @@ fn push_nodes(
     nodes: &[Reached<'_>],
     out: &mut Vec<u8>,
 ) -> Result<(), AllocError>
-    ensures { OnOk result (out.new.items ≡ out.old.items ++ flat_map (node_told teller.form slots.now name.now nodes.now) nodes.now) }
+    ensures { OnOk result (out.new.items ≡ out.old.items ++ flat_map (node_told teller.form slots.now (codes "reached") name.now nodes.now) nodes.now) }
 {
     let mut rest = nodes;
     while let [node, behind @ ..] = rest {
-        push_node(teller, slots, name, nodes, node, out)?;
+        push_node(teller, slots, "reached", name, nodes, node, out)?;
         rest = behind;
     }
     Ok(())

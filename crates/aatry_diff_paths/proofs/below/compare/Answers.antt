@@ -28,7 +28,8 @@ returns c =
     let who = ap (map (λ (name : Bor (List ℕ)). name.now)) c.deref.ensures.value ∙ c.in_ok-slices.ensures in
     record {
       otherwise = c.in_ok-told.told.otherwise;
-      found = told-by form (seen_how c.args.asked) _ _ _ _ _ _ _ _ _ _ _ _ _ heads old-loaded new-loaded who text c.in_ok-told.ensures;
+      found = told-by form (seen_how c.args.asked) _ _ _ _ _ _ _ _ _ _ _ _ _ _ _ _ _ heads old-loaded new-loaded
+          (λ i. (before.set i).machine.now) (λ i. (after.set i).machine.now) who text c.in_ok-told.ensures;
       noted = notes;
       counted = c.failed_by.ensures.value;
     }

@@ -1,0 +1,12 @@
+use Rattle.std.proofs.lemmas.Result.{on_ok_weaker}
+use Rattle.aa_explain_start_changes.specs.Starters.{seen_starters}
+use Rattle.aa_explain_start_changes.proofs.PutLemmas.{adds-change}
+use Rattle.aa_explain_start_changes.proofs.changes.put_change.Goals as goal
+
+pub returns : goal.returns
+returns c =
+    on_ok_weaker c.put_pair.result
+    (λ puts.
+    adds-change (seen_starters c.args.starters) c.args.owned c.args.path.now (record { old = c.in_ok-old.old; new = c.in_ok-new.new }) _ _
+    c.in_ok-old.ensures c.in_ok-new.ensures puts)
+    c.put_pair.ensures

@@ -1,0 +1,2 @@
+mod ChainLemmas
+mod WordLemmas

@@ -1,0 +1,4 @@
+pub mod Chain
+pub mod Laws
+pub mod NeverExec
+pub mod Telling
