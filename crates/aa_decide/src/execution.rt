@@ -243,8 +243,15 @@ fn carried_out<'a>(
     }
 }
 
-// The answer by what the rules say together.
-fn by_choice<'a>(
+/// The answer to the start of the program of a path by a profile, or its child or hat, whose rules are asked, by what these say together of it
+/// ([`choice_of`], or `exec_choice` of `aa_decide_rules` where it is known which of them match). [`exec_by`] answers so; this is for who asks for
+/// many starts by the same rules, and finds those that match by an automaton that is built once. `mediation` is that of its mode
+/// ([`Confinement`]).
+///
+/// # Errors
+///
+/// Where memory runs out.
+pub fn by_choice<'a>(
     alloc: Global,
     slots: &IndexedSlots<'_>,
     asker: Asker<'_>,

@@ -20,5 +20,5 @@ pub use aa_decide_rules::{
 pub use aa_profile_data::Request;
 pub use asker::{Asker, Who, find_loaded};
 pub use attachment::{attach, attached_child};
-pub use execution::{choice_of, exec, exec_by, led, led_by_word};
+pub use execution::{by_choice, choice_of, exec, exec_by, led, led_by_word};
 pub use laws::{where_programs_run, where_the_rules_lead};

@@ -34,6 +34,11 @@ rules_asked Unconfined = []
 rules_asked ByName = []
 rules_asked (By section mediation) = section.rules
 
+-- those of who asks; no one in particular has none
+abbrev pub asked_rules : Option Asker → List Rule
+asked_rules None = []
+asked_rules (Some asker) = rules_asked (confinement_of asker)
+
 -- the rules of who asks that speak of the start of programs; no one in particular has none
 abbrev pub start_rules : Option Asker → List Rule
 start_rules None = []

@@ -8,6 +8,7 @@ mod patterns;
 mod places;
 mod reach;
 mod reached;
+mod ready;
 mod standing;
 mod start;
 mod start_laws;
@@ -19,6 +20,7 @@ pub use patterns::{attachment_patterns, every_pattern, start_rules, wanted_patte
 pub use places::{leads_somewhere, same_to};
 pub use reach::{Reach, reachable_profiles};
 pub use reached::Reached;
+pub use ready::{ReadyAsker, exec_ready};
 pub use standing::standing_among;
 pub use start::Start;
 pub use start_laws::{how_starts_depend_on_paths, which_starts_are_shortest};

@@ -5,7 +5,7 @@ ghost use Rattle.std.specs.Option.{option_map};
 ghost use Rattle.aa_decide.specs.SeenExec.{seen_asker};
 ghost use Rattle.aa_decide_ready.specs.Confinement.{found};
 ghost use Rattle.aa_decide_ready.specs.Slots.{filled};
-ghost use Rattle.aa_explain_reach.specs.Patterns.{attaching, attaching_in, attaching_patterns, attachment_patterns, children_patterns, every_pattern};
+ghost use Rattle.aa_explain_reach.specs.Patterns.{asked_rules, attaching, attaching_in, attaching_patterns, attachment_patterns, children_patterns, every_pattern};
 ghost use Rattle.aa_explain_reach.specs.Patterns.{own_patterns, refuses, refuses_by, rules_asked, speaks_of_starts, start_rules, starting_rules};
 ghost use Rattle.aa_explain_reach.specs.Patterns.{wanted_patterns};
 ghost use Rattle.aa_profile_data.specs.FileRules.{file_patterns};
@@ -52,6 +52,16 @@ fn rules_asked<'a>(confinement: Confinement<'a>) -> &'a [Rule]
         Confinement::Unconfined => &[],
         Confinement::ByName => &[],
         Confinement::By { section, .. } => section.rules,
+    }
+}
+
+/// The rules of who asks that are asked; no one in particular has none, nor has one whose rules aren't.
+pub fn asked_rules<'a>(asker: Option<Asker<'a>>) -> &'a [Rule]
+    ensures { result.now ≡ asked_rules (option_map seen_asker asker.entry) }
+{
+    match asker {
+        None => &[],
+        Some(asker) => rules_asked(asker.entry.confinement(asker.child)),
     }
 }
 

@@ -13,9 +13,10 @@ ghost use Rattle.aa_glob_paths.specs.TooMany.{AreMoreTextsThan};
 
 use crate::patterns::every_pattern;
 use crate::places::{leads_somewhere, same_to};
+use crate::ready::{ReadyAsker, exec_ready};
 use crate::standing::starting_outcomes;
 use crate::start::Start;
-use aa_decide::{Asker, ExecTo, IndexedSlots, exec_by};
+use aa_decide::{Asker, ExecTo, IndexedSlots};
 use aa_glob_paths::{Outcome, outcomes_stand_for_all};
 use aa_glob_pattern::Pattern;
 use std::alloc::{AllocError, Global};
@@ -63,15 +64,15 @@ fn put_place<'a>(
 fn put_start<'a>(
     alloc: Global,
     slots: &IndexedSlots<'_>,
-    asker: Option<Asker<'a>>,
+    ready: &ReadyAsker<'a>,
     owned: bool,
     path: &[u8],
     starts: &mut Vec<Start<'a>>,
 ) -> Result<(), AllocError>
-    requires { IfSome asker (IsIn slots.now) }
-    ensures { OnOk result (AddsStart slots.now (option_map seen_asker asker.entry) owned path.now starts.old.items starts.new.items) }
+    requires { IfSome ready.now (IsIn slots.now) }
+    ensures { OnOk result (AddsStart slots.now (option_map seen_asker ready.now) owned path.now starts.old.items starts.new.items) }
 {
-    let found = exec_by(alloc, slots, asker, owned, path)?;
+    let found = exec_ready(alloc, slots, ready, owned, path)?;
     put_place(alloc, found.to, owned, path, starts)
 }
 
@@ -79,38 +80,38 @@ fn put_start<'a>(
 fn put_starts<'a>(
     alloc: Global,
     slots: &IndexedSlots<'_>,
-    asker: Option<Asker<'a>>,
+    ready: &ReadyAsker<'a>,
     every: &Pattern,
     path: &[u8],
     starts: &mut Vec<Start<'a>>,
 ) -> Result<(), AllocError>
-    requires asker { IfSome asker (IsIn slots.now) }
+    requires asker { IfSome ready.now (IsIn slots.now) }
     requires every { every.now ≡ every_pattern }
-    ensures { OnOk result (AddsStarts slots.now (option_map seen_asker asker.entry) path.now starts.old.items starts.new.items) }
+    ensures { OnOk result (AddsStarts slots.now (option_map seen_asker ready.now) path.now starts.old.items starts.new.items) }
 {
     if !every.matches(path) {
         return Ok(());
     }
-    put_start(alloc, slots, asker, false, path, starts)?;
-    put_start(alloc, slots, asker, true, path, starts)
+    put_start(alloc, slots, ready, false, path, starts)?;
+    put_start(alloc, slots, ready, true, path, starts)
 }
 
 // The starts of the programs of the paths of outcomes.
 fn starts_by<'a>(
     alloc: Global,
     slots: &IndexedSlots<'_>,
-    asker: Option<Asker<'a>>,
+    ready: &ReadyAsker<'a>,
     outcomes: &[Outcome],
 ) -> Result<Vec<Start<'a>>, AllocError>
-    requires asker { IfSome asker (IsIn slots.now) }
+    requires asker { IfSome ready.now (IsIn slots.now) }
     requires by_length { AllPairs (λ one later. length one.path.items ≤ length later.path.items) outcomes.now }
-    ensures { IfOk result (λ starts. AreStartsBy slots.now (option_map seen_asker asker.entry) (paths_of outcomes.now) starts.items) }
+    ensures { IfOk result (λ starts. AreStartsBy slots.now (option_map seen_asker ready.now) (paths_of outcomes.now) starts.items) }
 {
     let every = every_pattern(alloc)?;
     let mut starts = Vec::new(alloc);
     let mut rest = outcomes;
     while let [outcome, behind @ ..] = rest {
-        put_starts(alloc, slots, asker, &every, &outcome.path, &mut starts)?;
+        put_starts(alloc, slots, ready, &every, &outcome.path, &mut starts)?;
         rest = behind;
     }
     Ok(starts)
@@ -126,8 +127,8 @@ fn starts_by<'a>(
 /// exec word, of the attachments of all profiles in force, and of those of its own children. None where more than
 /// `limit` sets of states of these patterns' automaton were to be looked at for that.
 ///
-/// It takes time and memory for each of these sets and each of its states, and twice the time of a start for each of
-/// the paths that stand for all.
+/// It takes time and memory for each of these sets and each of its states, for one automaton of the rules of who asks,
+/// and twice the time of a start by that for each of the paths that stand for all.
 ///
 /// # Errors
 ///
@@ -146,6 +147,9 @@ pub fn starts_of<'a>(
     outcomes_stand_for_all();
     match starting_outcomes(alloc, slots.as_slice(), asker, limit)? {
         None => Ok(None),
-        Some(outcomes) => Ok(Some(starts_by(alloc, slots, asker, &outcomes)?)),
+        Some(outcomes) => {
+            let ready = ReadyAsker::of(alloc, asker)?;
+            Ok(Some(starts_by(alloc, slots, &ready, &outcomes)?))
+        }
     }
 }

@@ -10,7 +10,7 @@ ghost use Rattle.aa_glob_paths.specs.TooMany.{AreMoreTextsThan};
 
 use crate::changes::{StartChange, put_changes};
 use crate::patterns::changing_outcomes;
-use crate::starter::Starters;
+use crate::starter::{ReadyStarters, Starters};
 use aa_explain_reach::{every_pattern, how_starts_depend_on_paths};
 use aa_glob_paths::{Outcome, outcomes_stand_for_all};
 use std::alloc::{AllocError, Global};
@@ -18,18 +18,18 @@ use std::alloc::{AllocError, Global};
 // The starts of the programs of the paths of outcomes that lead elsewhere.
 fn changes_by<'a>(
     alloc: Global,
-    starters: Starters<'_, 'a>,
+    ready: &ReadyStarters<'_, 'a>,
     outcomes: &[Outcome],
 ) -> Result<Vec<StartChange<'a>>, AllocError>
-    requires there { AreThere starters }
+    requires there { AreThere ready.now }
     requires by_length { AllPairs (λ one later. length one.path.items ≤ length later.path.items) outcomes.now }
-    ensures { IfOk result (λ changes. AreChangesBy (seen_starters starters.entry) (paths_of outcomes.now) changes.items) }
+    ensures { IfOk result (λ changes. AreChangesBy (seen_starters ready.now) (paths_of outcomes.now) changes.items) }
 {
     let every = every_pattern(alloc)?;
     let mut changes = Vec::new(alloc);
     let mut rest = outcomes;
     while let [outcome, behind @ ..] = rest {
-        put_changes(alloc, starters, &every, &outcome.path, &mut changes)?;
+        put_changes(alloc, ready, &every, &outcome.path, &mut changes)?;
         rest = behind;
     }
     Ok(changes)
@@ -47,8 +47,8 @@ fn changes_by<'a>(
 /// and one that neither starts leads nowhere in both. None where more than `limit` sets of states of these patterns'
 /// automaton were to be looked at for that.
 ///
-/// It takes time and memory for each of these sets and each of its states, and four times the time of a start for each
-/// of the paths that stand for all.
+/// It takes time and memory for each of these sets and each of its states, for an automaton of the rules of either, and
+/// four times the time of a start by one of these for each of the paths that stand for all.
 ///
 /// # Errors
 ///
@@ -66,6 +66,9 @@ pub fn start_changes<'a>(
     how_starts_depend_on_paths();
     match changing_outcomes(alloc, starters, limit)? {
         None => Ok(None),
-        Some(outcomes) => Ok(Some(changes_by(alloc, starters, &outcomes)?)),
+        Some(outcomes) => {
+            let ready = ReadyStarters::of(alloc, starters)?;
+            Ok(Some(changes_by(alloc, &ready, &outcomes)?))
+        }
     }
 }

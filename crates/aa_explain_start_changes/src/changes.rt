@@ -7,7 +7,7 @@ ghost use Rattle.aa_explain_start_changes.specs.code.Same.{same_leads};
 ghost use Rattle.aa_explain_start_changes.specs.code.Telling.{AddsChange, AddsChanges, PutsPair, differs, has_pair, pair_of_change, pair_told};
 
 use crate::same::{same_led, same_pair};
-use crate::starter::{Led, Starters, led_by};
+use crate::starter::{Led, ReadyStarters, Starters};
 use aa_glob_pattern::Pattern;
 use std::alloc::{AllocError, Global};
 
@@ -99,17 +99,24 @@ fn put_pair<'a>(
 // The same of the start of the program of a path, by what it leads to.
 fn put_change<'a>(
     alloc: Global,
-    starters: Starters<'_, 'a>,
+    ready: &ReadyStarters<'_, 'a>,
     owned: bool,
     path: &[u8],
     changes: &mut Vec<StartChange<'a>>,
 ) -> Result<(), AllocError>
-    requires { AreThere starters }
-    ensures { OnOk result (AddsChange (seen_starters starters.entry) owned path.now changes.old.items changes.new.items) }
+    requires { AreThere ready.now }
+    ensures { OnOk result (AddsChange (seen_starters ready.now) owned path.now changes.old.items changes.new.items) }
 {
-    let old = led_by(alloc, starters.old, owned, path)?;
-    let new = led_by(alloc, starters.new, owned, path)?;
-    put_pair(alloc, starters, Pair { old, new }, owned, path, changes)
+    let old = ready.old_led(alloc, owned, path)?;
+    let new = ready.new_led(alloc, owned, path)?;
+    put_pair(
+        alloc,
+        ready.starters,
+        Pair { old, new },
+        owned,
+        path,
+        changes,
+    )
 }
 
 /// Appends the starts of the program of a path that lead elsewhere to others, of a file of another than the task's user
@@ -120,18 +127,18 @@ fn put_change<'a>(
 /// Where memory runs out. The first may have been appended then.
 pub fn put_changes<'a>(
     alloc: Global,
-    starters: Starters<'_, 'a>,
+    ready: &ReadyStarters<'_, 'a>,
     every: &Pattern,
     path: &[u8],
     changes: &mut Vec<StartChange<'a>>,
 ) -> Result<(), AllocError>
-    requires there { AreThere starters }
+    requires there { AreThere ready.now }
     requires every { every.now ≡ every_pattern }
-    ensures { OnOk result (AddsChanges (seen_starters starters.entry) path.now changes.old.items changes.new.items) }
+    ensures { OnOk result (AddsChanges (seen_starters ready.now) path.now changes.old.items changes.new.items) }
 {
     if !every.matches(path) {
         return Ok(());
     }
-    put_change(alloc, starters, false, path, changes)?;
-    put_change(alloc, starters, true, path, changes)
+    put_change(alloc, ready, false, path, changes)?;
+    put_change(alloc, ready, true, path, changes)
 }

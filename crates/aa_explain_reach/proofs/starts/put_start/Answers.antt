@@ -7,5 +7,5 @@ use Rattle.aa_explain_reach.proofs.starts.put_start.Goals as goal
 pub returns : goal.returns
 returns c =
     on_ok_weaker c.put_place.result
-    (λ puts. adds-start c.args.slots.now (option_map seen_asker c.args.asker) c.args.owned c.args.path.now c.in_ok-found.found _ _ c.in_ok-found.ensures puts)
+    (λ puts. adds-start c.args.slots.now (option_map seen_asker c.args.ready.now) c.args.owned c.args.path.now c.in_ok-found.found _ _ c.in_ok-found.ensures puts)
     c.put_place.ensures

@@ -10,7 +10,7 @@ use Rattle.aa_explain_reach.proofs.starts.put_starts.Goals as goal
 
 pub returns : goal.returns
 returns c =
-    let asker = option_map seen_asker c.args.asker in
+    let asker = option_map seen_asker c.args.ready.now in
     let absolute : is_absolute c.args.path.now ≡ true =
     ap (λ p. matches (items_of p) c.args.path.now) (sym c.requires.every) ∙ sym c.if-not-matches.ensures.test in
     on_ok_weaker c.put_start-2.result

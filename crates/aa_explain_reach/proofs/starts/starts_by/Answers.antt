@@ -7,12 +7,12 @@ use Rattle.aa_explain_reach.proofs.starts.starts_by.Goals as goal
 
 pub loop-rest-init : goal.loop-rest-init
 loop-rest-init c =
-    ([], refl, starts-none c.args.slots.now (option_map seen_asker c.args.asker) c.new-starts.result.items c.new-starts.ensures.items)
+    ([], refl, starts-none c.args.slots.now (option_map seen_asker c.args.ready.now) c.new-starts.result.items c.new-starts.ensures.items)
 
 pub loop-rest-preserved : goal.loop-rest-preserved
 loop-rest-preserved c =
     let slots = c.args.slots.now in
-    let asker = option_map seen_asker c.args.asker in
+    let asker = option_map seen_asker c.args.ready.now in
     let outcome = c.outcome-item.result in
     let all = c.loop-rest.rest.now in
     let rest = take (length all - 1) (drop 1 all) in

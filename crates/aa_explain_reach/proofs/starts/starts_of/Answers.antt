@@ -17,6 +17,8 @@ returns-in_ok-starts_by-in-Some-clause-told c =
     let starts = c.in_ok-starts_by-in-Some.field-0.items in
     let told : TellAllPaths (start_patterns (filled c.as_slice.result.now) asker) (start_classes (filled c.as_slice.result.now) asker) outcomes =
     rw c.in-Some.is at c.in_ok-starting_outcomes.ensures.told in
+    let by : AreStartsBy slots asker (paths_of c.deref.result.now) starts =
+    subst (λ who. AreStartsBy slots (option_map seen_asker who) (paths_of c.deref.result.now) starts) c.in_ok-ready-in-Some.ensures c.in_ok-starts_by-in-Some.ensures in
     starts-standing slots asker outcomes c.outcomes_stand_for_all.ensures.all
     (subst (λ s. TellAllPaths (start_patterns (filled s) asker) (start_classes (filled s) asker) outcomes) c.as_slice.ensures told)
-    starts (subst (λ os. AreStartsBy slots asker (paths_of os) starts) c.deref.ensures.value c.in_ok-starts_by-in-Some.ensures)
+    starts (subst (λ os. AreStartsBy slots asker (paths_of os) starts) c.deref.ensures.value by)

@@ -6,11 +6,11 @@ use Rattle.aa_explain_start_changes.proofs.StandLemmas.{changes-none, changes-th
 use Rattle.aa_explain_start_changes.proofs.asking.changes_by.Goals as goal
 
 pub loop-rest-init : goal.loop-rest-init
-loop-rest-init c = ([], refl, changes-none (seen_starters c.args.starters) c.new-changes.result.items c.new-changes.ensures.items)
+loop-rest-init c = ([], refl, changes-none (seen_starters c.args.ready.now) c.new-changes.result.items c.new-changes.ensures.items)
 
 pub loop-rest-preserved : goal.loop-rest-preserved
 loop-rest-preserved c =
-    let starters = seen_starters c.args.starters in
+    let starters = seen_starters c.args.ready.now in
     let outcome = c.outcome-item.result in
     let all = c.loop-rest.rest.now in
     let rest = take (length all - 1) (drop 1 all) in

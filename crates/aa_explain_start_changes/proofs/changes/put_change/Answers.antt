@@ -7,6 +7,6 @@ pub returns : goal.returns
 returns c =
     on_ok_weaker c.put_pair.result
     (λ puts.
-    adds-change (seen_starters c.args.starters) c.args.owned c.args.path.now (record { old = c.in_ok-old.old; new = c.in_ok-new.new }) _ _
+    adds-change (seen_starters c.args.ready.now) c.args.owned c.args.path.now (record { old = c.in_ok-old.old; new = c.in_ok-new.new }) _ _
     c.in_ok-old.ensures c.in_ok-new.ensures puts)
     c.put_pair.ensures

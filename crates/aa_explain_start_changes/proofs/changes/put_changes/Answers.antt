@@ -9,7 +9,7 @@ use Rattle.aa_explain_start_changes.proofs.changes.put_changes.Goals as goal
 
 pub returns : goal.returns
 returns c =
-    let starters = seen_starters c.args.starters in
+    let starters = seen_starters c.args.ready.now in
     let absolute : is_absolute c.args.path.now ≡ true =
     ap (λ p. matches (items_of p) c.args.path.now) (sym c.requires.every) ∙ sym c.if-not-matches.ensures.test in
     on_ok_weaker c.put_change-2.result

@@ -1,0 +1,141 @@
+//! Who starts programs, with one automaton of its rules, for many starts.
+
+ghost use Rattle.std.specs.Prelude.{◌≡◌, IfOk, IfSome};
+ghost use Rattle.std.specs.List.Sorted.{IsStrictlyIncreasing};
+ghost use Rattle.std.specs.Option.{option_map};
+ghost use Rattle.aa_decide.specs.Exec.{exec_answer};
+ghost use Rattle.aa_decide.specs.SeenExec.{IsAnswer, IsIn, seen_asker};
+ghost use Rattle.aa_decide_ready.specs.Slots.{filled};
+ghost use Rattle.aa_decide_rules.specs.Choices.{choice};
+ghost use Rattle.aa_decide_rules.specs.SeenChoices.{seen_choice};
+ghost use Rattle.aa_explain_reach.specs.Patterns.{asked_rules};
+ghost use Rattle.aa_glob.specs.Automata.{IsAutomatonOf};
+ghost use Rattle.aa_profile_data.specs.FileRules.{file_patterns};
+ghost use Rattle.aa_profile_data.specs.Matching.{AreMatchingRules};
+
+use crate::patterns::asked_rules;
+use aa_decide::{
+    Asker, Confinement, ExecChoice, ExecVerdict, IndexedSlots, ReadySection, Steps, by_choice,
+    exec_by,
+};
+use aa_decide_ready::{file_places, picked, with_files};
+use aa_decide_rules::exec_choice;
+use aa_glob::{Automaton, AutomatonBuilder};
+use aa_profile_data::{Rule, which_rules_match};
+use std::alloc::{AllocError, Global};
+use std::marker::Model;
+
+/// Someone who starts programs, or no one in particular, with the automaton of the rules that are asked then: it is
+/// built once, and each start runs it over its path. Contracts see who asks alone.
+#[derive(Drop)]
+pub struct ReadyAsker<'a> {
+    /// Who asks.
+    pub asker: Option<Asker<'a>>,
+    // The automaton of the patterns of the rules on files that are asked,
+    automaton: Automaton,
+    // and the places of these rules among all that are.
+    places: Vec<usize>,
+}
+
+impl<'a> Model for ReadyAsker<'a> {
+    ghost use Rattle.std.specs.Prelude.{◌≡◌, Option};
+    ghost use Rattle.std.specs.Option.{option_map};
+    ghost use Rattle.aa_decide.specs.SeenExec.{seen_asker};
+    ghost use Rattle.aa_decide.specs.declared.asker.Asker.{Asker};
+    ghost use Rattle.aa_explain_reach.specs.Patterns.{asked_rules};
+    ghost use Rattle.aa_glob.specs.Automata.{IsAutomatonOf};
+    ghost use Rattle.aa_profile_data.specs.FileRules.{file_patterns, places_from};
+
+    ghost Value = { Option Asker };
+
+    ghost view = { λ r. r.asker };
+
+    ghost invariant = { λ r.
+        IsAutomatonOf r.automaton (file_patterns (asked_rules (option_map seen_asker r.asker)))
+        × (r.places.items ≡ places_from 0 (asked_rules (option_map seen_asker r.asker))) };
+}
+
+// The automaton of the patterns of the rules on files among some.
+fn automaton_of(alloc: Global, rules: &[Rule]) -> Result<Automaton, AllocError>
+    ensures { IfOk result (λ automaton. IsAutomatonOf automaton (file_patterns rules.now)) }
+{
+    let builder = AutomatonBuilder::new(alloc)?;
+    let added = with_files(builder, alloc, rules)?;
+    Ok(added.finish())
+}
+
+impl<'a> ReadyAsker<'a> {
+    /// Builds the automaton of the rules of who asks, in the time and memory of their patterns' states; where no rules
+    /// are asked, it is that of none.
+    ///
+    /// # Errors
+    ///
+    /// Where memory runs out, and where there are more than 4,294,967,295 patterns or states.
+    pub fn of(alloc: Global, asker: Option<Asker<'a>>) -> Result<ReadyAsker<'a>, AllocError>
+        ensures { IfOk result (λ ready. ready ≡ asker.entry) }
+    {
+        let rules = asked_rules(asker);
+        let automaton = automaton_of(alloc, rules)?;
+        let places = file_places(alloc, rules)?;
+        Ok(ReadyAsker {
+            asker,
+            automaton,
+            places,
+        })
+    }
+
+    // The places of the rules that are asked and whose pattern matches a path, in rising order.
+    fn matching(&self, alloc: Global, path: &[u8]) -> Result<Vec<usize>, AllocError>
+        ensures found { IfOk result (λ places. AreMatchingRules (asked_rules (option_map seen_asker self.now)) path.now places.items) }
+        ensures rise { IfOk result (λ places. IsStrictlyIncreasing places.items) }
+    {
+        which_rules_match();
+        let found = self.automaton.matching(alloc, path, &mut Steps::new())?;
+        picked(alloc, self.places.as_slice(), found.as_slice())
+    }
+}
+
+// What the rules of who asks say together of the start of the program of a path, where these are the section's.
+fn choice_by<'a>(
+    alloc: Global,
+    ready: &ReadyAsker<'a>,
+    section: ReadySection<'a>,
+    owned: bool,
+    path: &[u8],
+) -> Result<ExecChoice<'a>, AllocError>
+    requires { section.rules.now ≡ asked_rules (option_map seen_asker ready.now) }
+    ensures { IfOk result (λ found. seen_choice found ≡ choice section.entry.audit owned path.now section.entry.rules.now) }
+{
+    let places = ready.matching(alloc, path)?;
+    exec_choice(alloc, section.audit, section.rules, &places, owned)
+}
+
+/// Answers as `aa_decide::exec_by`, by the automaton that is ready.
+///
+/// # Errors
+///
+/// Where memory runs out.
+pub fn exec_ready<'a>(
+    alloc: Global,
+    slots: &IndexedSlots<'_>,
+    ready: &ReadyAsker<'a>,
+    owned: bool,
+    path: &[u8],
+) -> Result<ExecVerdict<'a>, AllocError>
+    requires { IfSome ready.now (IsIn slots.now) }
+    ensures { IfOk result (λ found.
+        IsAnswer slots.now found (exec_answer (filled slots.now) (option_map seen_asker ready.now) owned path.now)) }
+{
+    let Some(asker) = ready.asker else {
+        return exec_by(alloc, slots, None, owned, path);
+    };
+    match asker.entry.confinement(asker.child) {
+        Confinement::Unconfined | Confinement::ByName => {
+            exec_by(alloc, slots, ready.asker, owned, path)
+        }
+        Confinement::By { section, mediation } => {
+            let choice = choice_by(alloc, ready, section, owned, path)?;
+            by_choice(alloc, slots, asker, mediation, path, choice)
+        }
+    }
+}
