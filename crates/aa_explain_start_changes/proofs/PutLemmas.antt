@@ -1,5 +1,5 @@
 -- Starts that lead elsewhere, added to others.
-use Rattle.std.proofs.Common.{◌≡◌, ◌⊎◌, ℕ, Bool, true, false, ◌||◌, List, [], ◌∷◌, ◌++◌, Option, None, Some, refl, sym, ◌∙◌, ap, subst, inl, inr, arith}
+use Rattle.std.proofs.Common.{◌≡◌, ℕ, Bool, true, false, ◌||◌, List, [], ◌∷◌, ◌++◌, Some, refl, sym, ◌∙◌, ap, subst, inl, inr, arith}
 use Rattle.std.specs.Prelude.{Contains, option_and_then}
 use Rattle.std.specs.Option.{option_map}
 use Rattle.std.proofs.lemmas.Bool.{true≢false}
@@ -10,11 +10,11 @@ use Rattle.aa_explain_start_changes.specs.Places.{place_of}
 use Rattle.aa_explain_start_changes.specs.StartChanges.{Leads, leads_of, leads_told}
 use Rattle.aa_explain_start_changes.specs.Starters.{IsLed, Starter, Starters, answer_of, lead_at, lead_of}
 use Rattle.aa_explain_start_changes.specs.code.Same.{same_pair}
-use Rattle.aa_explain_start_changes.specs.code.Telling.{AddsChange, AddsChanges, AreApart, IsPut, IsTold, IsToldOf, PutsPair, differs, has_pair, is_absolute, pair_of_change, pair_told}
+use Rattle.aa_explain_start_changes.specs.code.Telling.{AddsChange, AddsChanges, IsPut, IsTold, IsToldOf, PutsPair, has_pair, is_absolute, pair_of_change, pair_told}
 use Rattle.aa_explain_start_changes.specs.declared.changes.Pair.{Pair}
 use Rattle.aa_explain_start_changes.specs.declared.changes.StartChange.{StartChange}
 use Rattle.aa_explain_start_changes.specs.declared.starter.Led.{Led}
-use Rattle.aa_explain_start_changes.proofs.SameLemmas.{elsewhere, pair-is, pair-self}
+use Rattle.aa_explain_start_changes.proofs.SameLemmas.{pair-is, pair-self}
 use Rattle.aa_glob_nfa.proofs.ListLemmas.{Contains-cons_cases, Contains-first, Contains-later}
 
 module _ (starters : Starters) where

@@ -1,5 +1,5 @@
 -- The starts that lead elsewhere by some paths, and by one more.
-use Rattle.std.proofs.Common.{◌≡◌, ℕ, ◌≤◌, Bool, true, List, [], ◌∷◌, ◌++◌, length, sym, ◌∙◌, ap, subst, inl, inr, arith}
+use Rattle.std.proofs.Common.{◌≡◌, ◌≤◌, Bool, true, List, [], ◌∷◌, ◌++◌, length, sym, ◌∙◌, ap, subst, inl, inr, arith}
 use Rattle.std.specs.Prelude.{Contains}
 use Rattle.aa_explain_reach.proofs.AlikeLemmas.{in-back, in-front}
 use Rattle.aa_explain_reach.proofs.PutLemmas.{behind-cases}

@@ -1,24 +1,23 @@
 -- The starts that lead elsewhere by paths that stand for all are those over all paths.
-use Rattle.std.proofs.Common.{◌≡◌, ℕ, ◌≤◌, Bool, true, false, not, ◌||◌, List, [], ◌∷◌, ◌++◌, length, Option, None, Some, refl, sym, ◌∙◌, ap, subst, arith}
+use Rattle.std.proofs.Common.{◌≡◌, ℕ, ◌≤◌, Bool, true, false, not, ◌||◌, List, [], ◌∷◌, ◌++◌, length, None, refl, sym, ◌∙◌, ap, subst, arith}
 use Rattle.std.specs.Prelude.{Contains, slice_index_or}
 use Rattle.std.specs.Option.{option_map}
 use Rattle.std.proofs.lemmas.Bool.{and_from, and_parts}
 use Rattle.std.proofs.lemmas.List.Elements.{All-contains, Contains-get_or}
-use Rattle.aa_decide.specs.Exec.{Asker, ExecAnswer, Nowhere, Null, Stacked, Started, Unconfined, Under}
-use Rattle.aa_decide_ready.specs.Entries.{Loaded}
+use Rattle.aa_decide.specs.Exec.{ExecAnswer, Nowhere, Null, Stacked, Started, Unconfined, Under}
 use Rattle.aa_decide_ready.specs.Slots.{filled}
 use Rattle.aa_explain_paths.specs.Meant.{is_matched, may_be_asked, unasked_patterns}
 use Rattle.aa_explain_paths.proofs.TellingLemmas.{file-at, matched-told, outcome-asked}
 use Rattle.aa_explain_reach.specs.Patterns.{attaching_patterns, attachment_patterns, every_pattern, own_patterns, start_rules, wanted_patterns}
 use Rattle.aa_explain_reach.specs.Places.{is_somewhere}
 use Rattle.aa_explain_reach.specs.StartLaws.{HaveStartPatterns, StartsAreAlike, StartsAreWanted}
-use Rattle.aa_explain_reach.specs.Starts.{MayStart, place_to_go}
+use Rattle.aa_explain_reach.specs.Starts.{MayStart}
 use Rattle.aa_explain_reach.proofs.AlikeLemmas.{in-back, in-front}
 use Rattle.aa_explain_reach.proofs.WholeLemmas.{not-true, or-false}
 use Rattle.aa_explain_start_changes.specs.Patterns.{both_others, both_rules, both_wanted, change_classes, change_patterns}
 use Rattle.aa_explain_start_changes.specs.Places.{Lead, lead_by, place_of}
-use Rattle.aa_explain_start_changes.specs.StartChanges.{AreStartChanges, LeadElsewhere, Leads, leads_of}
-use Rattle.aa_explain_start_changes.specs.Starters.{Starter, Starters, answer_of, lead_of}
+use Rattle.aa_explain_start_changes.specs.StartChanges.{AreStartChanges, LeadElsewhere, leads_of}
+use Rattle.aa_explain_start_changes.specs.Starters.{Starter, Starters, answer_of}
 use Rattle.aa_explain_start_changes.specs.code.Telling.{AreChangesBy, is_absolute}
 use Rattle.aa_explain_start_changes.specs.declared.changes.StartChange.{StartChange}
 use Rattle.aa_glob_nfa.specs.Graphs.{AreBytes}

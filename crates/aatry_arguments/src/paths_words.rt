@@ -30,15 +30,18 @@ const USUAL_LIMIT: usize = 262_144;
 
 // The help on `never`.
 const NEVER_HELP: &str = "\
-Tells whether nothing of some access is let to any file of a pattern, or a path that says otherwise
+Tells whether nothing of some access is let to any file of a pattern, or a path that says otherwise;
+and after exec, whether no program ever runs unconfined that somebody starts, or that such a
+program starts in turn, or a chain of starts that ends so
 
 Usage: aatry never [OPTIONS] ACCESS OWNED PATTERN [WHO]..
+       aatry never [OPTIONS] exec WHO..
 
 Arguments:
   ACCESS   One or more of the letters r w a l k m x, none twice
   OWNED    owner where the task owns the file, other where it doesn't, any for both
   PATTERN  A pattern as a rule has it, as '/etc/**', with the variables of tunables/global
-  [WHO]..  Profiles, children or hats, by their full names; all, where none is given
+  [WHO]..  Profiles, children or hats, by their full names; all, where none is given, of an ACCESS
 
 Options:
   -b <DIR>     The folder of policy, /etc/apparmor.d unless it is given
@@ -53,8 +56,10 @@ and how many these are stands on standard error. All paths that PATTERN matches 
 those that the kernel never asks about, with // in them or a part . or .. ; a folder's path ends
 with /. The rules are asked as in enforce mode; where none is asked, all is let. For each WHO a
 line is told:
-  never   None of the letters is let, of no path. So many kinds of paths stand for all
-  no      This path says otherwise, and no shorter one does. Below stand the rules that let it
+  never   None of the letters is let, of no path. So many kinds of paths stand for all. Of exec, no
+          chain of starts ends unconfined, however long. So many places are reached
+  no      This path says otherwise, and no shorter one does. Below stand the rules that let it. Of
+          exec, a chain of starts ends unconfined. Below stands each start of it
   many    There are too many different paths for the limit, so nothing is known
   absent  Nobody has the name
 

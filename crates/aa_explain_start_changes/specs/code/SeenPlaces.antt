@@ -1,5 +1,4 @@
 -- Places as the code holds them.
-use Rattle.std.specs.Prelude.{Option}
 use Rattle.std.specs.Option.{option_copied, option_map}
 use Rattle.aa_explain_start_changes.specs.Places.{Lead, LetThrough, Named, NamedBase, NoProfile, OnNamed, OnNone, Place, StackOf}
 use Rattle.aa_explain_start_changes.specs.declared.places.Base.{Base}

@@ -1,5 +1,5 @@
 -- Starts that lead elsewhere, as far as they are told.
-use Rattle.std.specs.Prelude.{◌≡◌, ◌⊎◌, ℕ, Bool, true, false, not, List, AllPairs, Contains}
+use Rattle.std.specs.Prelude.{◌≡◌, ◌⊎◌, ℕ, Bool, true, not, List, AllPairs, Contains}
 use Rattle.std.specs.List.{list_any}
 use Rattle.aa_explain_reach.specs.Patterns.{every_pattern}
 use Rattle.aa_explain_start_changes.specs.StartChanges.{LeadElsewhere, Leads, TellsLeads, leads_of, leads_told}

@@ -13,5 +13,7 @@ returns-in_ok-changes_by-in-Some-clause-told c =
     let outcomes = c.in-Some.outcomes.items in
     let changes = c.in_ok-changes_by-in-Some.field-0.items in
     let told : TellAllPaths (change_patterns starters) (change_classes starters) outcomes = rw c.in-Some.is at c.in_ok-changing_outcomes.ensures.told in
+    let by : AreChangesBy starters (paths_of c.deref.result.now) changes =
+    subst (λ who. AreChangesBy (seen_starters who) (paths_of c.deref.result.now) changes) c.in_ok-ready-in-Some.ensures c.in_ok-changes_by-in-Some.ensures in
     changes-standing starters outcomes c.outcomes_stand_for_all.ensures.all c.how_starts_depend_on_paths.ensures.alike c.how_starts_depend_on_paths.ensures.wanted
-    told changes (subst (λ os. AreChangesBy starters (paths_of os) changes) c.deref.ensures.value c.in_ok-changes_by-in-Some.ensures)
+    told changes (subst (λ os. AreChangesBy starters (paths_of os) changes) c.deref.ensures.value by)

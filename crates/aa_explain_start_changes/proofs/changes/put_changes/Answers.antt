@@ -1,10 +1,10 @@
-use Rattle.std.proofs.Common.{◌≡◌, ◌∙◌, ap, false, sym, true}
+use Rattle.std.proofs.Common.{◌≡◌, ◌∙◌, ap, sym, true}
 use Rattle.std.proofs.lemmas.Result.{on_ok_weaker}
 use Rattle.aa_glob_syntax.specs.Matching.{matches}
 use Rattle.aa_glob_syntax.specs.Reading.{items_of}
 use Rattle.aa_explain_start_changes.specs.Starters.{seen_starters}
 use Rattle.aa_explain_start_changes.specs.code.Telling.{is_absolute}
-use Rattle.aa_explain_start_changes.proofs.PutLemmas.{adds-both, adds-nothing}
+use Rattle.aa_explain_start_changes.proofs.PutLemmas.{adds-both}
 use Rattle.aa_explain_start_changes.proofs.changes.put_changes.Goals as goal
 
 pub returns : goal.returns

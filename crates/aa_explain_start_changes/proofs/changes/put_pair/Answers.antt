@@ -1,6 +1,6 @@
 use Rattle.std.proofs.Common.{◌≡◌, ◌∙◌, ap, false, refl, sym, true}
 use Rattle.aa_explain_start_changes.specs.Starters.{seen_starters}
-use Rattle.aa_explain_start_changes.specs.code.Telling.{differs, has_pair, pair_told}
+use Rattle.aa_explain_start_changes.specs.code.Telling.{has_pair, pair_told}
 use Rattle.aa_explain_start_changes.proofs.PutLemmas.{puts-new, puts-nothing, puts-told}
 use Rattle.aa_explain_start_changes.proofs.SameLemmas.{alike, elsewhere}
 use Rattle.aa_explain_start_changes.proofs.changes.put_pair.Goals as goal
