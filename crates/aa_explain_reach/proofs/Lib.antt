@@ -8,4 +8,5 @@ pub mod ShortestLemmas
 pub mod StandLemmas
 pub mod StartLemmas
 pub mod StarterLemmas
+pub mod UnattachedLemmas
 pub mod WholeLemmas

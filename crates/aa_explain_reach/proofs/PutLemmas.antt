@@ -75,7 +75,7 @@ module _ (slots : List (Option Loaded)) where
   to-seen to.Nowhere to.Nowhere same = refl
   to-seen _ _ same = absurd cc
 
-  some-of : {A : Type 0} (one other : A) → Some one ≡ Some other → one ≡ other
+  pub some-of : {A : Type 0} (one other : A) → Some one ≡ Some other → one ≡ other
   some-of one other same = cc
 
   -- what leads somewhere is seen to do so
@@ -105,7 +105,7 @@ module _ (slots : List (Option Loaded)) where
           ap (λ (a : ExecAnswer). Some a.to) (some-of (record { verdict = found.verdict; to = place; scrub = found.scrub }) answer is)
 
 -- where one of some starts goes to a place, it is found
-found-start : (to : ExecTo) (starts : List Start) → has_start to starts ≡ true → (start : Start) × Contains starts start × (same_to start.to to ≡ true)
+pub found-start : (to : ExecTo) (starts : List Start) → has_start to starts ≡ true → (start : Start) × Contains starts start × (same_to start.to to ≡ true)
 found-start to [] none = absurd cc
 found-start to (one ∷ starts) some = by (same_to one.to to) refl some (found-start to starts)
   where
@@ -116,7 +116,7 @@ found-start to (one ∷ starts) some = by (same_to one.to to) refl some (found-s
     by false is some rest = let found = rest some in (found.0, Contains-later one starts found.0 found.1, found.2)
 
 -- where none does, each goes to another
-none-goes : (to : ExecTo) (starts : List Start) → has_start to starts ≡ false → (start : Start) → Contains starts start → same_to start.to to ≡ false
+pub none-goes : (to : ExecTo) (starts : List Start) → has_start to starts ≡ false → (start : Start) → Contains starts start → same_to start.to to ≡ false
 none-goes to [] none start at = absurd (omega (arith, at.1))
 none-goes to (one ∷ starts) none start at = by (same_to one.to to) refl none (none-goes to starts)
   where

@@ -127,14 +127,14 @@ child-same None (Some other) same = absurd cc
 child-same (Some place) None same = absurd cc
 
 -- what a place is, as a number
-abbrev kind_of : Started → ℕ
+abbrev pub kind_of : Started → ℕ
 kind_of (Under entry child) = 0
 kind_of Unconfined = 1
 kind_of (Stacked base members) = 2
 kind_of Null = 3
 kind_of Nowhere = 4
 
-abbrev code_kind : ExecTo → ℕ
+abbrev pub code_kind : ExecTo → ℕ
 code_kind (to.Profile slot child) = 0
 code_kind to.Unconfined = 1
 code_kind (to.Stack base members) = 2
@@ -145,7 +145,7 @@ module _ (slots : List (Option Loaded)) where
   kind-is : (one other : Started) → Some one ≡ Some other → kind_of one ≡ kind_of other
   kind-is one other same = let is : one ≡ other = cc in ap kind_of is
 
-  kind-seen : (code : ExecTo) (started : Started) → seen_to slots code ≡ Some started → code_kind code ≡ kind_of started
+  pub kind-seen : (code : ExecTo) (started : Started) → seen_to slots code ≡ Some started → code_kind code ≡ kind_of started
   kind-seen (to.Profile slot child) started seen = by (entry_at slots slot) seen
     where
       by : (found : Option Loaded) → option_map (λ entry. Under entry child) found ≡ Some started → 0 ≡ kind_of started
@@ -162,7 +162,7 @@ module _ (slots : List (Option Loaded)) where
   kind-seen to.Nowhere started seen = kind-is Nowhere started seen
 
   -- a slot is filled
-  held : (slot : ℕ) (entry : Loaded) → entry_at slots slot ≡ Some entry → slice_get slots slot ≡ Some (Some entry)
+  pub held : (slot : ℕ) (entry : Loaded) → entry_at slots slot ≡ Some entry → slice_get slots slot ≡ Some (Some entry)
   held slot entry at = by (slice_get slots slot) at
     where
       by : (found : Option (Option Loaded)) → (elim found as (λ _. Option Loaded) [ None ↦ None | Some content ↦ content ]) ≡ Some entry → found ≡ Some (Some entry)

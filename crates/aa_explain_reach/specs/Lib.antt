@@ -5,4 +5,5 @@ pub mod Reach
 pub mod StartLaws
 pub mod Starters
 pub mod Starts
+pub mod Unattached
 pub mod code

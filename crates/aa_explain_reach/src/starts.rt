@@ -21,8 +21,8 @@ use aa_glob_paths::{Outcome, outcomes_stand_for_all};
 use aa_glob_pattern::Pattern;
 use std::alloc::{AllocError, Global};
 
-// Whether one of some starts goes to a place.
-fn has_start(starts: &[Start<'_>], to: ExecTo<'_>) -> bool
+/// Whether one of some starts goes to a place. It takes no memory.
+pub fn has_start(starts: &[Start<'_>], to: ExecTo<'_>) -> bool
     ensures { result ≡ has_start to.entry starts.now }
 {
     let mut rest = starts;
