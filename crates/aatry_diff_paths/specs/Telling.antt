@@ -2,6 +2,7 @@
 use Rattle.std.specs.Prelude.{ℕ, Bool, false, true, ◌==◌, if◌then◌else◌, List, [], ◌∷◌, ◌++◌, codes, flat_map, map, slice_get, Option, None, Some}
 use Rattle.serde_json.specs.Data.{Members}
 use Rattle.aa_bytes.specs.Bytes.{line_feed}
+use Rattle.aa_decide_ready.specs.Entries.{Loaded}
 use Rattle.aa_decide_rules.specs.Answer.{answer_word}
 use Rattle.aa_decide_rules.specs.declared.verdict.Tag.{Tag}
 use Rattle.aa_decide_rules.specs.declared.verdict.Verdict.{Verdict}
@@ -13,6 +14,10 @@ use Rattle.aa_explain_changes.specs.declared.change.Answers.{Answers}
 use Rattle.aa_explain_changes.specs.declared.change.Change.{Change}
 use Rattle.aa_explain_changes.specs.declared.change.Change.TheVariants.{Gained, Lost, Otherwise, Same}
 use Rattle.aa_explain_diff.specs.Features.{OfRule, same_state}
+use Rattle.aa_explain_reach.specs.Places.{leads_somewhere}
+use Rattle.aa_explain_start_changes.specs.Starters.{Starters}
+use Rattle.aa_explain_start_changes.specs.declared.changes.StartChange.{StartChange}
+use Rattle.aa_explain_start_changes.specs.declared.starter.Led.{Led}
 use Rattle.aa_profile_data.specs.Access.{common, letters_of}
 use Rattle.aa_profile_data.specs.declared.profile.Mode.{Mode}
 use Rattle.aa_profile_data.specs.declared.profile.Rule.{Rule}
@@ -23,6 +28,7 @@ use Rattle.aatry_changes.specs.Changes.{gone_text, headed, headed_record}
 use Rattle.aatry_claims.specs.Sentences.{owner_word}
 use Rattle.aatry_policy.specs.FolderParts.{FolderParts}
 use Rattle.aatry_policy.specs.Parts.{Part}
+use Rattle.aatry_reach.specs.Telling.{place_text}
 use Rattle.aatry_report.specs.Records.{record_line, with_text}
 use Rattle.aatry_report.specs.Shown.{shown}
 use Rattle.aatry_report.specs.declared.form.Form.{Form}
@@ -34,12 +40,12 @@ use Rattle.aatry_shared.specs.declared.side.Side.TheVariants.{New, Old}
 use Rattle.aatry_uncertain.specs.LeftOutHeads.{LeftOutHead}
 use Rattle.aatry_path_changes.specs.Finding.{Both, Finding, Found, OfAbsent, OfBoth, OfGone, OfNew}
 use Rattle.aatry_path_changes.specs.Kinds.{is_same, kind_of_both}
-use Rattle.aatry_path_changes.specs.Starts.{StartFound}
 use Rattle.aatry_path_changes.specs.declared.kinds.Kind.{Kind}
 use Rattle.aatry_path_changes.specs.declared.kinds.Kind.TheVariants as kind
 use Rattle.aatry_path_changes.specs.declared.others.Other.{Other}
 use Rattle.aatry_path_changes.specs.declared.others.Other.TheVariants.{Capability, Sockets}
 use Rattle.aatry_path_changes.specs.declared.others.OtherChange.{OtherChange}
+use Rattle.aatry_diff_paths.specs.declared.told_starts.Places.{Places as CodePlaces}
 
 -- how an answer is logged: not, or by a line, and with which letters of a file
 abbrev pub mask_text : ℕ → List ℕ
@@ -159,27 +165,46 @@ modes_text Records name old new = record_line (mode_record name old new)
 abbrev pub mode_text : Form → List ℕ → Option Mode → Option Mode → List ℕ
 mode_text form name old new = if same_state old new then [] else modes_text form name old new
 
--- where a start leads before and after the change
-unfoldable pub places_text : StartFound → List ℕ
-places_text start = codes ": " ++ shown start.before ++ codes " -> " ++ shown start.after ++ line_feed ∷ []
+-- What the start of a program leads to, in words: under what the program runs, and that its environment is scrubbed, where
+-- it is; or that it leads nowhere.
+abbrev pub led_text : List (Option Loaded) → Led → List ℕ
+led_text slots led =
+    if leads_somewhere led.to then place_text slots led.to ++ (if led.scrub then codes " scrub" else []) else codes "nowhere"
+
+-- where a start leads before and after the change, in words
+pub record StartPlaces : Type 0 where
+  pub before : List ℕ
+  pub after : List ℕ
+
+abbrev pub start_places : Starters → StartChange → StartPlaces
+start_places starters start = record { before = led_text starters.old.slots start.old; after = led_text starters.new.slots start.new }
+
+abbrev pub seen_places : CodePlaces → StartPlaces
+seen_places places = record { before = places.before.items; after = places.after.items }
+
+abbrev pub places_text : StartPlaces → List ℕ
+places_text places = codes ": " ++ shown places.before ++ codes " -> " ++ shown places.after ++ line_feed ∷ []
 
 -- a start that leads elsewhere
-unfoldable pub start_line : StartFound → List ℕ
-start_line start = codes "  start of " ++ shown start.path ++ owner_note start.owned ++ places_text start
+unfoldable pub start_line : StartChange → StartPlaces → List ℕ
+start_line start places = codes "  start of " ++ shown start.path.items ++ owner_note start.owned ++ places_text places
 
-unfoldable pub start_record : List ℕ → StartFound → Members
-start_record name start =
-    with_text (codes "after") start.after
-    (with_text (codes "before") start.before
-    (with_text (codes "owned") (owner_word start.owned) (with_text (codes "path") start.path (headed_record (codes "start") name))))
+unfoldable pub start_record : List ℕ → StartChange → StartPlaces → Members
+start_record name start places =
+    with_text (codes "after") places.after
+    (with_text (codes "before") places.before
+    (with_text (codes "owned") (owner_word start.owned) (with_text (codes "path") start.path.items (headed_record (codes "start") name))))
 
-abbrev pub start_text : Form → List ℕ → StartFound → List ℕ
-start_text Lines name start = start_line start
-start_text Records name start = record_line (start_record name start)
+abbrev pub start_by : Form → List ℕ → StartChange → StartPlaces → List ℕ
+start_by Lines name start places = start_line start places
+start_by Records name start places = record_line (start_record name start places)
 
-abbrev pub starts_text : Form → List ℕ → Option (List StartFound) → List ℕ
-starts_text form name None = []
-starts_text form name (Some starts) = flat_map (start_text form name) starts
+abbrev pub start_text : Form → List ℕ → Starters → StartChange → List ℕ
+start_text form name starters start = start_by form name start (start_places starters start)
+
+abbrev pub starts_text : Form → List ℕ → Starters → Option (List StartChange) → List ℕ
+starts_text form name starters None = []
+starts_text form name starters (Some starts) = flat_map (start_text form name starters) starts
 
 -- what is told below the line of parts that both folders have
 unfoldable pub below_text : Form → FolderParts → FolderParts → Both → List ℕ
@@ -187,7 +212,7 @@ below_text form old new both =
     mode_text form both.part.name both.part.section.mode both.other.section.mode
     ++ files_text form old new both.part both.other both.files
     ++ others_text form both.part.name both.others
-    ++ starts_text form both.part.name both.starts
+    ++ starts_text form both.part.name both.starters both.starts
 
 -- the word of what is found; in records it is a kind
 abbrev pub many_word : Form → List ℕ

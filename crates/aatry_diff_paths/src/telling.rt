@@ -102,7 +102,7 @@ fn push_below(
     )?;
     push_files(finders, teller, &pair, &both.files, out)?;
     push_others(teller, name, &both.others, out)?;
-    push_starts(teller, name, &both.starts, out)
+    push_starts(teller, name, both.starters, &both.starts, out)
 }
 
 // The word for paths that are too many; in records it is a kind.

@@ -36,7 +36,7 @@ use Rattle.aa_explain_changes.specs.declared.change.Answers.{Answers}
 use Rattle.aatry_path_changes.specs.declared.others.Other.{Other}
 use Rattle.aatry_path_changes.specs.declared.others.Other.TheVariants.{Capability, Sockets}
 use Rattle.aatry_path_changes.specs.declared.others.OtherChange.{OtherChange}
-use Rattle.aatry_path_changes.specs.Starts.{AreStartsOf, StartFound, has_gained_start, has_lost_start, start_found, starters_named}
+use Rattle.aatry_path_changes.specs.Starts.{AreStartsOf, has_gained_start, has_lost_start, starters_named}
 use Rattle.aatry_policy.specs.Parts.{Part}
 
 not-false : (a : Bool) → not a ≡ false → a ≡ true
@@ -199,19 +199,18 @@ kind-otherwise true false otherwise h = absurd cc
 kind-otherwise true true otherwise h = absurd cc
 
 -- where no start is told, all are alike
-no-starts : (starters : Starters) (changes : List StartChange) → is_empty (map (start_found starters) changes) ≡ true → changes ≡ []
-no-starts starters [] h = refl
-no-starts starters (change ∷ changes) h = absurd cc
+no-starts : (starts : List StartChange) → is_empty starts ≡ true → starts ≡ []
+no-starts [] h = refl
+no-starts (start ∷ starts) h = absurd cc
 
-starts-alike : NoStartChangeIsHidden → (starters : Starters) (limit : ℕ) (starts : List StartFound) → AreStartsOf starters limit (Some starts) → is_empty starts ≡ true
-    → StartAlike starters
-starts-alike hidden starters limit starts right none =
-    hidden starters (subst (AreStartChanges starters) (no-starts starters right.0 (ap is_empty (sym right.2) ∙ none)) right.1)
+starts-alike : NoStartChangeIsHidden → (starters : Starters) (limit : ℕ) (starts : List StartChange) → AreStartsOf starters limit (Some starts)
+    → is_empty starts ≡ true → StartAlike starters
+starts-alike hidden starters limit starts right none = hidden starters (subst (AreStartChanges starters) (no-starts starts none) right)
 
 alike-by : NoChangeIsHidden → LettersDecideSets → NoStartChangeIsHidden → (quiet : Bool) (limit : ℕ) (starters : Starters) (part other : Part) (both : Both)
     → both.part ≡ part → both.other ≡ other → both.others ≡ other_changes (sides_of quiet part other)
     → (files : Option FileChanges) → AreChangesOf (sides_of quiet part other) limit files
-    → (starts : Option (List StartFound)) → AreStartsOf starters limit starts
+    → (starts : Option (List StartChange)) → AreStartsOf starters limit starts
     → is_same (kind_of_known both files starts) ≡ true → AnswerAlike quiet starters part other
 alike-by hidden decide started quiet limit starters part other both same also others None right starts told is = absurd cc
 alike-by hidden decide started quiet limit starters part other both same also others (Some files) right None told is = absurd cc

@@ -4,13 +4,15 @@ use Rattle.std.specs.List.{All}
 use Rattle.aa_explain_changes.specs.FileChanges.{AreChangesOf}
 use Rattle.aa_explain_changes.specs.Sides.{Side, Sides}
 use Rattle.aa_explain_changes.specs.declared.asking.FileChanges.{FileChanges}
+use Rattle.aa_explain_start_changes.specs.Starters.{Starters, seen_starters}
+use Rattle.aa_explain_start_changes.specs.declared.changes.StartChange.{StartChange}
 use Rattle.aatry_changes.specs.PartChanges.{is_new}
 use Rattle.aatry_claims.specs.Found.{asks_rules}
 use Rattle.aatry_policy.specs.FolderParts.{FolderParts}
 use Rattle.aatry_policy.specs.Parts.{Part, part_of}
 use Rattle.aatry_policy.specs.SeenProfiles.{seen_part}
 use Rattle.aatry_path_changes.specs.Others.{other_changes}
-use Rattle.aatry_path_changes.specs.Starts.{AreStartsOf, Policies, StartFound, seen_start, starters_named}
+use Rattle.aatry_path_changes.specs.Starts.{AreStartsOf, Policies, starters_named}
 use Rattle.aatry_path_changes.specs.declared.finding.BothFound.{BothFound}
 use Rattle.aatry_path_changes.specs.declared.finding.Finding.{Finding as CodeFinding}
 use Rattle.aatry_path_changes.specs.declared.finding.Finding.TheVariants as code
@@ -39,13 +41,14 @@ abbrev pub sides_of : Bool → Part → Part → Sides
 sides_of quiet part other = let asked = ask_rules part other in record { old = side_if asked part; new = side_if asked other; quiet = quiet }
 
 -- a part of the old folder, the one of its full name in the new one, what the change changes of files, where paths aren't too many, and of what is no file; and
--- the starts of programs that lead elsewhere, where their paths aren't too many
+-- who starts programs by this name in either policy set, and the starts that lead elsewhere, where their paths aren't too many
 pub record Both : Type 0 where
   pub part : Part
   pub other : Part
   pub files : Option FileChanges
   pub others : List OtherChange
-  pub starts : Option (List StartFound)
+  pub starters : Starters
+  pub starts : Option (List StartChange)
 
 -- nobody has a name; or the old folder alone has somebody of it, or the new one alone, or both have
 pub data Finding : Type 0 where
@@ -60,7 +63,7 @@ pub record Found : Type 0 where
   pub finding : Finding
 
 abbrev pub seen_both : BothFound → Both
-seen_both both = record { part = seen_part both.part.now; other = seen_part both.other.now; files = both.files; others = both.others.items; starts = option_map (λ starts. map seen_start starts.items) both.starts }
+seen_both both = record { part = seen_part both.part.now; other = seen_part both.other.now; files = both.files; others = both.others.items; starters = seen_starters both.starters; starts = option_map (λ starts. starts.items) both.starts }
 
 abbrev pub seen_finding : CodeFinding → Finding
 seen_finding code.Absent = OfAbsent
@@ -78,6 +81,7 @@ pub record IsOfBoth (quiet : Bool) (limit : ℕ) (policies : Policies) (before n
   pub other : both.other ≡ now
   pub files : AreChangesOf (sides_of quiet before now) limit both.files
   pub others : both.others ≡ other_changes (sides_of quiet before now)
+  pub starters : both.starters ≡ starters_named policies before.name
   pub starts : AreStartsOf (starters_named policies before.name) limit both.starts
 
 -- What is found is right, by the part that the old folder has of a name, and the one that the new one has.

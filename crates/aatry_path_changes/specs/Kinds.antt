@@ -7,11 +7,12 @@ use Rattle.aa_explain_changes.specs.declared.rules.RuleChange.{RuleChange as Cod
 use Rattle.aa_explain_diff.specs.Features.{same_state}
 use Rattle.aa_explain_changes.specs.declared.change.Change.{Change}
 use Rattle.aa_explain_changes.specs.declared.change.Change.TheVariants.{Gained, Lost, Otherwise, Same}
+use Rattle.aa_explain_start_changes.specs.declared.changes.StartChange.{StartChange}
 use Rattle.aa_profile_data.specs.declared.profile.Mode.{Mode}
 use Rattle.aa_profile_data.specs.declared.profile.Mode.TheVariants.{Complain, Enforce, Unconfined}
 use Rattle.aatry_path_changes.specs.Finding.{Both, Finding, Found, OfAbsent, OfBoth, OfGone, OfNew}
 use Rattle.aatry_path_changes.specs.Others.{has_gained, has_lost, is_gained, is_lost}
-use Rattle.aatry_path_changes.specs.Starts.{StartFound, has_gained_start, has_lost_start}
+use Rattle.aatry_path_changes.specs.Starts.{has_gained_start, has_lost_start}
 use Rattle.aatry_path_changes.specs.declared.kinds.Kind.{Kind}
 use Rattle.aatry_path_changes.specs.declared.kinds.Kind.TheVariants as kind
 
@@ -63,12 +64,12 @@ kind_by gained lost otherwise =
     if gained then (if lost then kind.Both else kind.Wider) else if lost then kind.Narrower else if otherwise then kind.Otherwise else kind.Same
 
 -- by what changes of files, and by the starts of programs that lead elsewhere
-abbrev pub kind_with : Both → FileChanges → List StartFound → Kind
+abbrev pub kind_with : Both → FileChanges → List StartChange → Kind
 kind_with both files starts =
     kind_by ((files.gained || gained_beside both) || has_gained_start starts) ((files.lost || lost_beside both) || has_lost_start starts)
     ((differs_beside both || differs_in_files files) || not (is_empty starts))
 
-abbrev pub kind_of_known : Both → Option FileChanges → Option (List StartFound) → Kind
+abbrev pub kind_of_known : Both → Option FileChanges → Option (List StartChange) → Kind
 kind_of_known both (Some files) (Some starts) = kind_with both files starts
 kind_of_known both None starts = kind.TooMany
 kind_of_known both (Some files) None = kind.TooMany
@@ -110,7 +111,7 @@ abbrev pub files_differ : Option FileChanges → Bool
 files_differ None = false
 files_differ (Some files) = differs_in_files files
 
-abbrev pub starts_differ : Option (List StartFound) → Bool
+abbrev pub starts_differ : Option (List StartChange) → Bool
 starts_differ None = false
 starts_differ (Some starts) = not (is_empty starts)
 

@@ -1,5 +1,5 @@
 -- Starts of programs that lead elsewhere, by the policy sets of two folders.
-use Rattle.std.specs.Prelude.{◌≡◌, ℕ, Bool, false, true, if◌then◌else◌, List, [], ◌++◌, codes, map, Option, None, Some}
+use Rattle.std.specs.Prelude.{ℕ, Bool, false, true, List, Option, None, Some}
 use Rattle.std.specs.List.{list_any}
 use Rattle.aa_decide.specs.Exec.{named_asker}
 use Rattle.aa_decide_ready.specs.Entries.{Loaded}
@@ -16,8 +16,6 @@ use Rattle.aa_glob_paths.specs.TooMany.{AreMoreTextsThan}
 use Rattle.aa_profile_data.specs.FullNames.{full_name}
 use Rattle.aatry_path_changes.specs.Others.{is_gained, is_lost}
 use Rattle.aatry_path_changes.specs.declared.starts.Policies.{Policies as CodePolicies}
-use Rattle.aatry_path_changes.specs.declared.starts.StartFound.{StartFound as CodeStartFound}
-use Rattle.aatry_reach.specs.Telling.{place_text}
 
 -- the policy sets of two folders, as slots hold them
 pub record Policies : Type 0 where
@@ -34,12 +32,6 @@ starter_named slots name = record { slots = slots; asker = named_asker (filled s
 abbrev pub starters_named : Policies → List ℕ → Starters
 starters_named policies name = record { old = starter_named policies.old name; new = starter_named policies.new name }
 
--- What the start of a program leads to, in words: under what the program runs, and that its environment is scrubbed, where
--- it is; or that it leads nowhere.
-abbrev pub led_text : List (Option Loaded) → Led → List ℕ
-led_text slots led =
-    if leads_somewhere led.to then place_text slots led.to ++ (if led.scrub then codes " scrub" else []) else codes "nowhere"
-
 -- how it changes whether a program is started
 abbrev pub change_by_starts : Bool → Bool → Change
 change_by_starts false true = Gained
@@ -50,37 +42,15 @@ change_by_starts true true = Otherwise
 abbrev pub change_of_start : Led → Led → Change
 change_of_start old new = change_by_starts (leads_somewhere old.to) (leads_somewhere new.to)
 
--- a start that leads elsewhere, in words
-pub record StartFound : Type 0 where
-  pub path : List ℕ
-  pub owned : Bool
-  pub before : List ℕ
-  pub after : List ℕ
-  pub change : Change
-
-abbrev pub seen_start : CodeStartFound → StartFound
-seen_start start =
-    record { path = start.path.items; owned = start.owned; before = start.before.items; after = start.after.items; change = start.change }
-
-abbrev pub start_found : Starters → StartChange → StartFound
-start_found starters found = record {
-  path = found.path.items;
-  owned = found.owned;
-  before = led_text starters.old.slots found.old;
-  after = led_text starters.new.slots found.new;
-  change = change_of_start found.old found.new;
-}
-
--- These are all starts that lead elsewhere, in words; or nothing is told, and more texts than the limit are read differently
--- by the patterns.
-abbrev pub AreStartsOf : Starters → ℕ → Option (List StartFound) → Type 0
+-- These are all starts that lead elsewhere; or none are told, and more texts than the limit are read differently by the
+-- patterns.
+abbrev pub AreStartsOf : Starters → ℕ → Option (List StartChange) → Type 0
 AreStartsOf starters limit None = AreMoreTextsThan (change_patterns starters) limit
-AreStartsOf starters limit (Some starts) =
-    (changes : List StartChange) × AreStartChanges starters changes × (starts ≡ map (start_found starters) changes)
+AreStartsOf starters limit (Some starts) = AreStartChanges starters starts
 
 -- a program is started now that wasn't; and one isn't any more that was
-abbrev pub has_gained_start : List StartFound → Bool
-has_gained_start starts = list_any (λ (s : StartFound). is_gained s.change) starts
+abbrev pub has_gained_start : List StartChange → Bool
+has_gained_start starts = list_any (λ (s : StartChange). is_gained (change_of_start s.old s.new)) starts
 
-abbrev pub has_lost_start : List StartFound → Bool
-has_lost_start starts = list_any (λ (s : StartFound). is_lost s.change) starts
+abbrev pub has_lost_start : List StartChange → Bool
+has_lost_start starts = list_any (λ (s : StartChange). is_lost (change_of_start s.old s.new)) starts

@@ -10,8 +10,9 @@ ghost use Rattle.aatry_policy.specs.SeenProfiles.{seen_part};
 
 use crate::names::names_asked;
 use crate::others::{OtherChange, other_changes};
-use crate::starts::{Policies, StartFound, find_starts};
+use crate::starts::{Policies, find_starts, starters_named};
 use aa_explain_changes::{FileChanges, Side, Sides, changes_of_files};
+use aa_explain_start_changes::{StartChange, Starters};
 use aatry_claims::asks_rules;
 use aatry_policy::{FolderParts, Part, part_of};
 use std::alloc::{AllocError, Global};
@@ -27,8 +28,10 @@ pub struct BothFound<'a> {
     pub files: Option<FileChanges<'a>>,
     /// What is answered otherwise of what is no file.
     pub others: Vec<OtherChange>,
+    /// Who starts programs by their name, in the policy set of either folder.
+    pub starters: Starters<'a, 'a>,
     /// The starts of programs that lead elsewhere; none, where their paths are too many.
-    pub starts: Option<Vec<StartFound>>,
+    pub starts: Option<Vec<StartChange<'a>>>,
 }
 
 /// What is found of a full name.
@@ -116,17 +119,14 @@ fn both_found<'a>(
     let sides = sides_of(question.quiet, part, other);
     let files = changes_of_files(alloc, sides, question.limit)?;
     let others = other_changes(alloc, sides)?;
-    let starts = find_starts(
-        alloc,
-        question.policies,
-        part.name.as_slice(),
-        question.limit,
-    )?;
+    let starters = starters_named(question.policies, part.name.as_slice());
+    let starts = find_starts(alloc, starters, question.limit)?;
     Ok(BothFound {
         part,
         other,
         files,
         others,
+        starters,
         starts,
     })
 }

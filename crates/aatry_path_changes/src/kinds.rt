@@ -4,13 +4,13 @@ ghost use Rattle.std.specs.Prelude.{◌≡◌, IfOk, map, option_map};
 ghost use Rattle.aa_explain_diff.specs.Features.{same_state};
 ghost use Rattle.aatry_path_changes.specs.Finding.{OfBoth, seen_both, seen_finding, seen_found};
 ghost use Rattle.aatry_path_changes.specs.Kinds.{differs_beside, differs_in_files, files_differ, gained_beside, has_otherwise, has_undecided, is_otherwise, is_same, is_undecided, is_unknown, kind_by, kind_of, kind_of_both, kind_with, kinds_of, lost_beside, mode_change, some_told, starts_differ};
-ghost use Rattle.aatry_path_changes.specs.Starts.{seen_start};
 
 use crate::finding::{BothFound, Finding, Found};
 use crate::others::{has_gained, has_lost, is_gained, is_lost};
-use crate::starts::{StartFound, has_gained_start, has_lost_start};
+use crate::starts::{has_gained_start, has_lost_start};
 use aa_explain_changes::{Change, FileChanges, RuleChange};
 use aa_explain_diff::Feature;
+use aa_explain_start_changes::StartChange;
 use aa_profile_data::Mode;
 use std::alloc::{AllocError, Global};
 
@@ -122,8 +122,8 @@ fn kind_by(gained: bool, lost: bool, otherwise: bool) -> Kind
 }
 
 // The word by what changes of files, and by the starts of programs that lead elsewhere.
-fn kind_with(both: &BothFound<'_>, files: &FileChanges<'_>, starts: &[StartFound]) -> Kind
-    ensures { result ≡ kind_with (seen_both both.now) files.now (map seen_start starts.now) }
+fn kind_with(both: &BothFound<'_>, files: &FileChanges<'_>, starts: &[StartChange<'_>]) -> Kind
+    ensures { result ≡ kind_with (seen_both both.now) files.now starts.now }
 {
     let gained = files.gained || gained_beside(both) || has_gained_start(starts);
     let lost = files.lost || lost_beside(both) || has_lost_start(starts);
@@ -198,8 +198,8 @@ fn files_differ(files: &Option<FileChanges<'_>>) -> bool
 }
 
 // Whether it is known that a start leads elsewhere.
-fn starts_differ(starts: &Option<Vec<StartFound>>) -> bool
-    ensures { result ≡ starts_differ (option_map (λ starts. map seen_start starts.items) starts.now) }
+fn starts_differ(starts: &Option<Vec<StartChange<'_>>>) -> bool
+    ensures { result ≡ starts_differ (option_map (λ starts. starts.items) starts.now) }
 {
     match starts {
         None => false,

@@ -13,4 +13,4 @@ pub use finding::{BothFound, Finding, Found, Question, find_asked, sides_of};
 pub use kinds::{Kind, has_otherwise, has_undecided, is_same, kind_of_both, kinds_of, same_state};
 pub use laws::what_is_the_same_answers_alike;
 pub use others::{Other, OtherChange};
-pub use starts::{Policies, StartFound};
+pub use starts::Policies;

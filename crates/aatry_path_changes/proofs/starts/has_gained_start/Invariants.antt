@@ -1,10 +1,10 @@
-use Rattle.std.proofs.Common.{◌≡◌, length, map}
-use Rattle.aatry_path_changes.specs.Starts.{has_gained_start, seen_start}
+use Rattle.std.proofs.Common.{◌≡◌, length}
+use Rattle.aatry_path_changes.specs.Starts.{has_gained_start}
 use Rattle.aatry_path_changes.proofs.starts.has_gained_start.Given as goal
 
 -- none of the starts so far is one
 abbrev pub invariant-loop-rest : goal.invariant-loop-rest
-invariant-loop-rest l = has_gained_start (map seen_start l.rest) ≡ has_gained_start (map seen_start l.starts)
+invariant-loop-rest l = has_gained_start l.rest ≡ has_gained_start l.starts
 
 abbrev pub decreases-loop-rest : goal.decreases-loop-rest
 decreases-loop-rest l = length l.rest
