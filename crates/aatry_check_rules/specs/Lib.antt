@@ -1,7 +1,10 @@
 pub mod Below
 pub mod Finding
 pub mod Laws
+pub mod SeenChecked
 pub mod SeenWhich
 pub mod Summary
 pub mod Telling
+pub mod Unattached
+pub mod UnattachedTold
 pub mod Written

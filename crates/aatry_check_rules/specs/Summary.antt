@@ -19,14 +19,15 @@ told_in found = elim found.told [ None ↦ 0 | Some told ↦ length told ]
 abbrev pub tried_in : Found → ℕ
 tried_in found = elim found.told [ None ↦ 0 | Some told ↦ found.tried ]
 
--- the counts of the findings for parts, where files of these names are asked about
-abbrev pub counts_of : List Part → List (List ℕ) → List Found → Counts
-counts_of parts names found = record {
+-- the counts of the findings for parts, where files of these names are asked about, and of so many profiles that no path is attached to
+abbrev pub counts_of : List Part → List (List ℕ) → List Found → ℕ → Counts
+counts_of parts names found unattached = record {
   all = length found;
   told = sum_by told_in found;
   tried = sum_by tried_in found;
   many = count_by is_many found;
   absent = count_by (is_absent parts) names;
+  unattached = unattached;
 }
 
 -- how many there are of something, where there are some
@@ -38,21 +39,26 @@ unfoldable pub told_words : ℕ → ℕ → ℕ → List ℕ
 told_words all told tried =
     decimal all ++ codes " profiles, children and hats: " ++ decimal told ++ rules_word told ++ codes " of " ++ decimal tried ++ decide_word told
 
+-- the same, and how many profiles no path is attached to, where there are such
+unfoldable pub idle_words : Counts → List ℕ
+idle_words counts = told_words counts.all counts.told counts.tried ++ share counts.unattached (codes " unattached")
+
 -- the summary as a line
 unfoldable pub summary_line : Counts → List ℕ
 summary_line counts =
-    told_words counts.all counts.told counts.tried ++ share counts.many (codes " too many") ++ share counts.absent (codes " absent") ++ line_feed ∷ []
+    idle_words counts ++ share counts.many (codes " too many") ++ share counts.absent (codes " absent") ++ line_feed ∷ []
 
 -- the summary as a record
 unfoldable pub summary_record : Counts → Members
 summary_record counts =
-    with_number (codes "absent") counts.absent (with_number (codes "too_many") counts.many (with_number (codes "tried") counts.tried
-    (with_number (codes "redundant") counts.told (with_number (codes "all") counts.all (record_of (codes "summary"))))))
+    with_number (codes "absent") counts.absent (with_number (codes "unattached") counts.unattached
+    (with_number (codes "too_many") counts.many (with_number (codes "tried") counts.tried
+    (with_number (codes "redundant") counts.told (with_number (codes "all") counts.all (record_of (codes "summary")))))))
 
 -- the summary in a form
 abbrev pub summary_by : Form → Counts → List ℕ
 summary_by Lines counts = summary_line counts
 summary_by Records counts = record_line (summary_record counts)
 
-abbrev pub summary_text : Form → List Part → List (List ℕ) → List Found → List ℕ
-summary_text form parts names found = summary_by form (counts_of parts names found)
+abbrev pub summary_text : Form → List Part → List (List ℕ) → List Found → ℕ → List ℕ
+summary_text form parts names found unattached = summary_by form (counts_of parts names found unattached)

@@ -2,22 +2,24 @@
 
 ghost use Rattle.std.specs.Prelude.{◌≡◌, ◌++◌, IfErr, IfOk, OnOk, map, string_bytes};
 ghost use Rattle.aatry_arguments.specs.Given.{meant_check};
-ghost use Rattle.aatry_check_rules.specs.Below.{AreRulesChecked, AreRulesIn, AreRulesTold, IsEndOfRules, checked_text, seen_loaded};
-ghost use Rattle.aatry_check_rules.specs.Finding.{seen_found};
+ghost use Rattle.aatry_check_rules.specs.Below.{AreAllFound, AreFolderRulesTold, AreRulesChecked, AreRulesIn, AreRulesTold, IsEndOfRules, checked_text, has_fault, is_undecided, seen_loaded, unattached_in};
+ghost use Rattle.aatry_check_rules.specs.SeenChecked.{seen_all, seen_checked};
 ghost use Rattle.aatry_claims.specs.Never.{seen_paths_report};
-ghost use Rattle.aatry_policy.specs.FolderParts.{seen_folder as seen_parts};
 ghost use Rattle.aatry_policy.specs.Folders.{seen_folder};
 
 use crate::finding::{Found, Question, find, has_absent, some_many, some_told};
 use crate::summary::push_summary;
 use crate::telling::{push_absents, push_all};
 use crate::trying::Which;
+use crate::unattached::{find_unattached, is_too_many, unattached_count};
+use crate::unattached_told::push_unattached;
+use aa_decide_ready::IndexedSlots;
 use aa_profile_parsing::Language;
 use aa_start::FileSystem;
 use aatry_arguments::Check;
 use aatry_claims::PathsReport;
 use aatry_folder::{Fault, Folders, PolicyFolder, Report, failed_by, policy_below};
-use aatry_policy::{FolderParts, LoadedFolder, by_parts, load_folder, parts_of};
+use aatry_policy::{FolderParts, LoadedFolder, Origin, by_parts, load_folder, parts_of};
 use aatry_report::Teller;
 use std::alloc::{AllocError, Global};
 
@@ -33,51 +35,128 @@ pub struct RulesHow {
 /// The outcome of a check.
 #[derive(Clone, Copy)]
 pub struct Outcome {
-    /// Whether some written rule decides nothing, or a named file doesn't exist.
+    /// Whether some written rule decides nothing, no path is attached to some profile, or a named file doesn't exist.
     pub faulty: bool,
-    /// Whether some part has too many paths.
+    /// Whether some part has too many paths, or the attachments have.
     pub undecided: bool,
+}
+
+/// A folder by its parts, with the slots of its policy set, and where each profile of that was read.
+#[derive(Clone, Copy)]
+pub struct Checked<'a> {
+    /// The folder by its parts.
+    pub folder: FolderParts<'a>,
+    /// The slots of its policy set.
+    pub slots: &'a IndexedSlots<'a>,
+    /// Where each profile was read.
+    pub origins: &'a [Origin],
+}
+
+/// What is found of a folder.
+#[derive(Drop)]
+pub struct AllFound<'a> {
+    /// What is found of the parts that are asked about.
+    pub found: Vec<Found<'a>>,
+    /// The slots of profiles that no path is attached to; `None`, where there are too many paths.
+    pub unattached: Option<Vec<usize>>,
+}
+
+// What is found of a folder.
+fn find_all<'a>(
+    alloc: Global,
+    how: RulesHow,
+    checked: Checked<'a>,
+    names: &[&[u8]],
+) -> Result<AllFound<'a>, AllocError>
+    ensures { IfOk result (λ all. AreAllFound how (seen_checked checked.entry) (map (λ name. name.now) names.now) (seen_all all)) }
+{
+    let question = Question {
+        which: Which {
+            included: how.included,
+            files: checked.folder.below.files,
+        },
+        limit: how.limit,
+    };
+    let found = find(alloc, question, names, checked.folder.parts)?;
+    let unattached = find_unattached(alloc, checked.slots, checked.origins, names, how.limit)?;
+    Ok(AllFound { found, unattached })
+}
+
+// How many of the profiles that no path is attached to are asked about.
+fn unattached_in(checked: Checked<'_>, names: &[&[u8]], all: &AllFound<'_>) -> usize
+    ensures { result ≡ unattached_in (seen_checked checked.entry) (map (λ name. name.now) names.now) (seen_all all.now) }
+{
+    unattached_count(
+        checked.slots.as_slice(),
+        checked.origins,
+        names,
+        &all.unattached,
+    )
 }
 
 // Appends the report on all that is found to a text, and the summary.
 fn push_found(
     teller: Teller,
-    folder: &FolderParts<'_>,
+    checked: Checked<'_>,
     names: &[&[u8]],
-    found: &[Found<'_>],
+    all: &AllFound<'_>,
     out: &mut Vec<u8>,
 ) -> Result<(), AllocError>
     ensures { OnOk result (out.new.items ≡ out.old.items
-        ++ checked_text teller.form (seen_parts folder.now) (map (λ name. name.now) names.now) (map seen_found found.now)) }
+        ++ checked_text teller.form (seen_checked checked.entry) (map (λ name. name.now) names.now) (seen_all all.now)) }
 {
-    push_all(teller, folder.below, found, out)?;
+    let Checked {
+        folder,
+        slots,
+        origins,
+    } = checked;
+    push_all(teller, folder.below, &all.found, out)?;
+    push_unattached(
+        teller,
+        folder.below,
+        slots.as_slice(),
+        origins,
+        names,
+        &all.unattached,
+        out,
+    )?;
     push_absents(teller, folder.parts, names, out)?;
-    push_summary(teller, folder.parts, names, found, out)
+    let unattached = unattached_in(checked, names, all);
+    push_summary(teller, folder.parts, names, &all.found, unattached, out)
+}
+
+// Whether something is at fault.
+fn has_fault(checked: Checked<'_>, names: &[&[u8]], all: &AllFound<'_>) -> bool
+    ensures { result ≡ has_fault (seen_checked checked.entry) (map (λ name. name.now) names.now) (seen_all all.now) }
+{
+    some_told(&all.found)
+        || unattached_in(checked, names, all) != 0
+        || has_absent(checked.folder.parts, names)
+}
+
+// Whether something isn't known.
+fn is_undecided(all: &AllFound<'_>) -> bool
+    ensures { result ≡ is_undecided (seen_all all.now) }
+{
+    some_many(&all.found) || is_too_many(&all.unattached)
 }
 
 // Checks the rules of a folder by its parts, and appends the report to a text.
 fn tell_parts(
     teller: Teller,
     how: RulesHow,
-    folder: &FolderParts<'_>,
+    checked: Checked<'_>,
     names: &[&[u8]],
     out: &mut Vec<u8>,
 ) -> Result<Outcome, AllocError>
-    ensures { IfOk result (λ told. AreRulesTold teller.form how (seen_parts folder.now) (map (λ name. name.now) names.now)
+    ensures { IfOk result (λ told. AreRulesTold teller.form how (seen_checked checked.entry) (map (λ name. name.now) names.now)
         out.old.items out.new.items told.faulty told.undecided) }
 {
-    let question = Question {
-        which: Which {
-            included: how.included,
-            files: folder.below.files,
-        },
-        limit: how.limit,
-    };
-    let found = find(teller.alloc, question, names, folder.parts)?;
-    push_found(teller, folder, names, &found, out)?;
+    let all = find_all(teller.alloc, how, checked, names)?;
+    push_found(teller, checked, names, &all, out)?;
     Ok(Outcome {
-        faulty: some_told(&found) || has_absent(folder.parts, names),
-        undecided: some_many(&found),
+        faulty: has_fault(checked, names, &all),
+        undecided: is_undecided(&all),
     })
 }
 
@@ -89,13 +168,19 @@ fn tell_loaded(
     names: &[&[u8]],
     out: &mut Vec<u8>,
 ) -> Result<Outcome, AllocError>
-    ensures { IfOk result (λ told. AreRulesTold teller.form how (seen_loaded loaded.now) (map (λ name. name.now) names.now)
-        out.old.items out.new.items told.faulty told.undecided) }
+    ensures { IfOk result (λ told. AreFolderRulesTold teller.form how (seen_loaded loaded.now) loaded.now.policy.manager.machine.now loaded.now.policy.origins.items
+        (map (λ name. name.now) names.now) out.old.items out.new.items told.faulty told.undecided) }
 {
     let set = loaded.policy.manager.policy_set();
+    let slots = set.slots();
     let parts = parts_of(teller.alloc, &set, &loaded.policy.origins)?;
-    let folder = by_parts(loaded.folder, &parts);
-    tell_parts(teller, how, &folder, names, out)
+    let checked = Checked {
+        folder: by_parts(loaded.folder, &parts),
+        slots: &slots,
+        origins: &loaded.policy.origins,
+    };
+    let told = tell_parts(teller, how, checked, names, out)?;
+    Ok(told)
 }
 
 // The bytes of words, none of them copied.

@@ -141,8 +141,8 @@ fn push_found<'a>(
     Ok(())
 }
 
-// Whether a file has one of these names.
-fn is_named(file: &[u8], names: &[&[u8]]) -> bool
+/// Whether a file has one of these names. It takes no memory.
+pub fn is_named(file: &[u8], names: &[&[u8]]) -> bool
     ensures { result ≡ list_any (is_of_file file.now) (map (λ name. name.now) names.now) }
 {
     let mut rest = names;

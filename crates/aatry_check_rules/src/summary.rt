@@ -3,7 +3,7 @@
 ghost use Rattle.std.specs.Prelude.{◌≡◌, ◌≤◌, ◌++◌, IfOk, OnOk, count_by, length, map};
 ghost use Rattle.std.specs.List.{sum_by};
 ghost use Rattle.aatry_check_rules.specs.Finding.{is_absent, is_many, seen_found};
-ghost use Rattle.aatry_check_rules.specs.Summary.{counts_of, share, summary_by, summary_line, summary_record, summary_text, told_in, told_words, tried_in};
+ghost use Rattle.aatry_check_rules.specs.Summary.{counts_of, idle_words, share, summary_by, summary_line, summary_record, summary_text, told_in, told_words, tried_in};
 ghost use Rattle.aatry_policy.specs.SeenProfiles.{seen_part};
 ghost use Rattle.aatry_report.specs.SeenRecord.{seen_record};
 
@@ -26,6 +26,8 @@ pub struct Counts {
     pub many: usize,
     /// How many named files have no part.
     pub absent: usize,
+    /// How many profiles no path is attached to.
+    pub unattached: usize,
 }
 
 // How many rules of a part are reported.
@@ -113,8 +115,13 @@ fn absent_count(parts: &[Part<'_>], names: &[&[u8]]) -> usize
 }
 
 // The counts of the summary.
-fn counts_of(parts: &[Part<'_>], names: &[&[u8]], found: &[Found<'_>]) -> Result<Counts, AllocError>
-    ensures { IfOk result (λ counts. counts ≡ counts_of (map seen_part parts.now) (map (λ name. name.now) names.now) (map seen_found found.now)) }
+fn counts_of(
+    parts: &[Part<'_>],
+    names: &[&[u8]],
+    found: &[Found<'_>],
+    unattached: usize,
+) -> Result<Counts, AllocError>
+    ensures { IfOk result (λ counts. counts ≡ counts_of (map seen_part parts.now) (map (λ name. name.now) names.now) (map seen_found found.now) unattached) }
 {
     let told = told_count(found)?;
     let tried = tried_count(found)?;
@@ -124,6 +131,7 @@ fn counts_of(parts: &[Part<'_>], names: &[&[u8]], found: &[Found<'_>]) -> Result
         tried,
         many: many_count(found),
         absent: absent_count(parts, names),
+        unattached,
     })
 }
 
@@ -152,12 +160,22 @@ fn push_told(all: usize, told: usize, tried: usize, out: &mut Vec<u8>) -> Result
     Ok(())
 }
 
+// The same, and how many profiles no path is attached to, where there are such.
+#[tactic(auto, unfolding(crate::specs::Summary::idle_words))]
+fn push_idle(counts: Counts, out: &mut Vec<u8>) -> Result<(), AllocError>
+    ensures { OnOk result (out.new.items ≡ out.old.items ++ idle_words counts) }
+{
+    push_told(counts.all, counts.told, counts.tried, out)?;
+    push_share(counts.unattached, " unattached", out)?;
+    Ok(())
+}
+
 // Appends the summary to a text as a line.
 #[tactic(auto, unfolding(crate::specs::Summary::summary_line))]
 fn push_line(counts: Counts, out: &mut Vec<u8>) -> Result<(), AllocError>
     ensures { OnOk result (out.new.items ≡ out.old.items ++ summary_line counts) }
 {
-    push_told(counts.all, counts.told, counts.tried, out)?;
+    push_idle(counts, out)?;
     push_share(counts.many, " too many", out)?;
     push_share(counts.absent, " absent", out)?;
     out.push(b'\n')?;
@@ -174,6 +192,7 @@ fn summary_record(alloc: Global, counts: Counts) -> Result<Record, AllocError>
     made.put_number(alloc, "redundant", counts.told)?;
     made.put_number(alloc, "tried", counts.tried)?;
     made.put_number(alloc, "too_many", counts.many)?;
+    made.put_number(alloc, "unattached", counts.unattached)?;
     made.put_number(alloc, "absent", counts.absent)?;
     Ok(made)
 }
@@ -189,8 +208,8 @@ fn push_counts(teller: Teller, counts: Counts, out: &mut Vec<u8>) -> Result<(), 
 }
 
 /// Appends the summary to a text: how many parts were looked at, how many of their written rules decide nothing, of how many that were tried, how
-/// many parts have too many paths, and how many named files don't exist, where there are such; or as a record of the kind `summary` with a number
-/// for each: `all`, `redundant`, `tried`, `too_many` and `absent`.
+/// profiles no path is attached to, how many parts have too many paths, and how many named files don't exist, where there are such; or as a
+/// record of the kind `summary` with a number for each: `all`, `redundant`, `tried`, `too_many`, `unattached` and `absent`.
 ///
 /// # Errors
 ///
@@ -200,11 +219,12 @@ pub fn push_summary(
     parts: &[Part<'_>],
     names: &[&[u8]],
     found: &[Found<'_>],
+    unattached: usize,
     out: &mut Vec<u8>,
 ) -> Result<(), AllocError>
     ensures { OnOk result (out.new.items ≡ out.old.items
-        ++ summary_text teller.form (map seen_part parts.now) (map (λ name. name.now) names.now) (map seen_found found.now)) }
+        ++ summary_text teller.form (map seen_part parts.now) (map (λ name. name.now) names.now) (map seen_found found.now) unattached) }
 {
-    let counts = counts_of(parts, names, found)?;
+    let counts = counts_of(parts, names, found, unattached)?;
     push_counts(teller, counts, out)
 }
