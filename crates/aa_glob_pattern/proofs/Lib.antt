@@ -3,6 +3,7 @@ pub mod BoundLemmas
 pub mod ErrorLemmas
 pub mod GatheringLemmas
 pub mod GroupLemmas
+pub mod LiteralLemmas
 pub mod MatchingLemmas
 pub mod OverlapLemmas
 pub mod PassLemmas

@@ -4,6 +4,7 @@
 
 mod elements;
 mod laws;
+mod literal;
 mod matching;
 mod pass;
 mod pattern;
