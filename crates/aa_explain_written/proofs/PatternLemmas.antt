@@ -14,7 +14,7 @@ use Rattle.aa_text_expansion.specs.Choices.{choices}
 use Rattle.aa_text_expansion.specs.Parts.{Byte as ByteOf}
 use Rattle.aa_text_variables.specs.Expansions.{expansions, values}
 use Rattle.aa_text_variables.specs.Variables.{is_undefined, names_undefined}
-use Rattle.aa_profile_grammar.specs.Patterns.{collapsed}
+use Rattle.aa_glob_syntax.specs.Slashes.{collapsed}
 use Rattle.aa_explain_written.proofs.MarkLemmas.{bare, elements-marked, is_marked, marked, parts-marked, pieces-path}
 
 and-true : (t : Bool) → (t && true) ≡ false → t ≡ false

@@ -15,7 +15,8 @@ use Rattle.aa_profile.specs.Plainness.{is_plain, is_plain_element}
 use Rattle.aa_profile.specs.Profiles.{exec_rank, file_rule_with, rules_of_rule, token_rank}
 use Rattle.aa_profile_parsing.specs.declared.language.Language.{Language}
 use Rattle.aa_profile_parsing.specs.declared.language.Language.TheVariants.{Four, Three}
-use Rattle.aa_profile_grammar.specs.Patterns.{collapsed, patterns_at}
+use Rattle.aa_glob_syntax.specs.Slashes.{collapsed}
+use Rattle.aa_profile_grammar.specs.Patterns.{patterns_at}
 use Rattle.aa_profile_rules.specs.Rules.{OnFile}
 use Rattle.aa_profile_rules.specs.declared.access.Access.{Access}
 use Rattle.aa_profile_rules.specs.declared.qualifiers.Qualifiers.{Qualifiers}

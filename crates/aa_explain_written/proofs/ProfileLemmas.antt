@@ -21,7 +21,8 @@ use Rattle.aa_profile.specs.Profiles.{profile_of, rules_of_members, rules_of_rul
 use Rattle.aa_profile_parsing.specs.declared.language.Language.{Language}
 use Rattle.aa_profile_parsing.specs.declared.language.Language.TheVariants.{Four, Three}
 use Rattle.aa_profile_grammar.specs.PatternTokens.{of_profiles}
-use Rattle.aa_profile_grammar.specs.Patterns.{collapsed, first_bad, over_limit, refusal_of_expansion}
+use Rattle.aa_glob_syntax.specs.Slashes.{collapsed}
+use Rattle.aa_profile_grammar.specs.Patterns.{first_bad, over_limit, refusal_of_expansion}
 use Rattle.aa_profile_rules.specs.Rules.{OnCapabilities, OnFile, OnNetwork, Rule as WrittenRule}
 use Rattle.aa_profile_rules.specs.declared.access.Access.{Access}
 use Rattle.aa_profile_rules.specs.declared.networks.Sockets.{Sockets}

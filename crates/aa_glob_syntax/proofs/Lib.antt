@@ -2,4 +2,5 @@ pub mod BitLemmas
 pub mod ClassLemmas
 pub mod ElementLemmas
 pub mod FaultLemmas
+pub mod SlashLemmas
 pub mod SymbolLemmas

@@ -12,5 +12,6 @@ pub mod PatternError
 pub mod Overlap
 pub mod Patterns
 pub mod Reading
+pub mod Slashes
 pub mod Symbols
 pub mod code

@@ -11,6 +11,7 @@ mod groups;
 mod members;
 mod part;
 mod pattern_error;
+mod slashes;
 mod star;
 mod symbol;
 
@@ -20,3 +21,4 @@ pub use class::Class;
 pub use context::Context;
 pub use element::{Element, Next, next_element};
 pub use pattern_error::PatternError;
+pub use slashes::collapse;

@@ -17,7 +17,8 @@ use Rattle.aa_text_tokens.specs.Splicing.{Placed}
 use Rattle.aa_text_variables.specs.Expansions.{expansions}
 use Rattle.aa_text_variables.specs.Variables.{Variable}
 use Rattle.aa_profile_grammar.specs.PatternTokens.{of_child, of_head, of_members, of_profile, of_profiles, of_rule, of_rules}
-use Rattle.aa_profile_grammar.specs.Patterns.{collapsed, first_bad, patterns_at, refusal_of_expansion, refusal_of_expansions, refusal_of_token}
+use Rattle.aa_glob_syntax.specs.Slashes.{collapsed}
+use Rattle.aa_profile_grammar.specs.Patterns.{first_bad, patterns_at, refusal_of_expansion, refusal_of_expansions, refusal_of_token}
 use Rattle.aa_profile_rules.specs.Capabilities.{all_capabilities}
 use Rattle.aa_profile_rules.specs.Networks.{all_sockets}
 use Rattle.aa_profile.specs.Profiles.{cap_rule, children_of, exec_of_all, file_rule, kept_of_all, letters_of_all, net_rule, rules_of, rules_of_members, rules_of_rule, token_rank}

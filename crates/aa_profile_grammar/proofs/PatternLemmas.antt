@@ -8,7 +8,8 @@ use Rattle.std.proofs.lemmas.List.{length-take-le, take_all}
 use Rattle.aa_bytes.specs.Bytes.{slash}
 use Rattle.aa_glob_syntax.specs.Reading.{longest}
 use Rattle.aa_text_expansion.specs.Joining.{most_kept}
-use Rattle.aa_profile_grammar.specs.Patterns.{collapsed, refusal_of_expansion, refusal_of_expansions}
+use Rattle.aa_glob_syntax.specs.Slashes.{collapsed}
+use Rattle.aa_profile_grammar.specs.Patterns.{refusal_of_expansion, refusal_of_expansions}
 use Rattle.aa_profile_parsing.specs.declared.profile_error.ProfileRefusal.{ProfileRefusal}
 use Rattle.aa_glob_syntax.specs.declared.pattern_error.PatternError.TheVariants.{TooLong}
 use Rattle.aa_profile_parsing.specs.declared.profile_error.ProfileRefusal.TheVariants.{Pattern}
@@ -55,28 +56,3 @@ patterns_told (text ∷ texts) fine = by (refusal_of_expansion text) refl (patte
 pub both : {X E : Type 0} (r : Result X E) (P Q R : X → Type 0) → ((x : X) → P x → Q x → R x) → IfOk r P → IfOk r Q → IfOk r R
 both (Ok x) P Q R third p q = third x p q
 both (Err error) P Q R third p q = tt
-
--- a byte stays, or is gone where it is one slash of a run and what is left is the same without it
-one-more : (second first : Bool) (byte : ℕ) (without without' kept kept' : List ℕ) → (second ≡ true → first ≡ true → without ≡ without') → kept ≡ kept'
-    → cond (second && first) without (byte ∷ kept) ≡ (if first && second then without' else byte ∷ kept')
-one-more true true byte without without' kept kept' gone stays = gone refl refl
-one-more true false byte without without' kept kept' gone stays = ap (λ rest. byte ∷ rest) stays
-one-more false true byte without without' kept kept' gone stays = ap (λ rest. byte ∷ rest) stays
-one-more false false byte without without' kept kept' gone stays = ap (λ rest. byte ∷ rest) stays
-
--- the last byte stays
-last-stays : (test : Bool) (byte : ℕ) → byte ∷ [] ≡ (if test && false then [] else byte ∷ [])
-last-stays true byte = refl
-last-stays false byte = refl
-
--- the same of all that come behind a byte
-behind-collapses : (before : ℕ) (bytes : List ℕ) → dedup_from (λ byte before. byte == slash && before == slash) before bytes ≡ collapsed (before ∷ bytes)
-behind-collapses before [] = last-stays (before == slash) before
-behind-collapses before (byte ∷ bytes) = one-more (byte == slash) (before == slash) before _ _ _ _
-    (λ second first. behind-collapses before bytes ∙ ap (λ b. collapsed (b ∷ bytes)) (eqb-true before slash first ∙ sym (eqb-true byte slash second)))
-    (behind-collapses byte bytes)
-
--- a text in which no slash is left behind another is one in which each run of slashes is one slash
-pub dedup_collapses : (text : List ℕ) → dedup (λ byte before. byte == slash && before == slash) text ≡ collapsed text
-dedup_collapses [] = refl
-dedup_collapses (first ∷ bytes) = behind-collapses first bytes

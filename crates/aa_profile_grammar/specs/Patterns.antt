@@ -1,10 +1,9 @@
 -- The patterns of a file, as its tokens and its variables make them (docs/policy.md, "Variables" and "Patterns").
 use Rattle.std.specs.List.{list_all}
 use Rattle.std.specs.Option.{option_map}
-use Rattle.std.specs.Prelude.{ℕ, ◌+◌, Bool, ◌&&◌, ◌==◌, nat_le, is_none, if◌then◌else◌, List, [], ◌∷◌, length, map, Option, None, Some, Ok, Err}
-use Rattle.aa_bytes.specs.Bytes.{slash}
-use Rattle.aa_bytes.specs.Texts.{begins_with_byte}
+use Rattle.std.specs.Prelude.{ℕ, ◌+◌, Bool, ◌&&◌, nat_le, is_none, if◌then◌else◌, List, [], ◌∷◌, length, map, Option, None, Some, Ok, Err}
 use Rattle.aa_glob_syntax.specs.Reading.{longest, reading}
+use Rattle.aa_glob_syntax.specs.Slashes.{collapsed}
 use Rattle.aa_glob_syntax.specs.declared.pattern_error.PatternError.TheVariants.{TooLong}
 use Rattle.aa_profile_parsing.specs.Tokens.{place_of, text_of}
 use Rattle.aa_text_tokens.specs.Splicing.{Placed}
@@ -38,11 +37,6 @@ too_many variables before (token ∷ tokens) =
 -- the refusal of that token, with its place
 abbrev pub over_limit : List Variable → List Placed → Option ProfileError
 over_limit variables tokens = option_map (λ token. placed TooManyRules (place_of token)) (too_many variables 0 tokens)
-
--- a text in which each run of slashes is one slash
-abbrev pub collapsed : List ℕ → List ℕ
-collapsed [] = []
-collapsed (b ∷ bs) = if b == slash && begins_with_byte slash bs then collapsed bs else b ∷ collapsed bs
 
 -- The refusal of an expansion that is no pattern: runs of slashes are collapsed before it is read. Its length is counted before that.
 abbrev pub refusal_of_expansion : List ℕ → Option ProfileRefusal

@@ -4,13 +4,14 @@ ghost use Rattle.std.specs.Prelude.{◌≡◌, ◌≢◌, ◌∷◌, [], Ok, Err
 ghost use Rattle.std.specs.Option.{option_map};
 ghost use Rattle.aa_text_tokens.specs.SeenSplicedTokens.{seen_spliced};
 ghost use Rattle.aa_profile_parsing.specs.SeenTokens.{seen_tokens};
-ghost use Rattle.aa_profile_grammar.specs.Patterns.{collapsed, have_expansions, over_limit, patterns_at, refusal_of_expansion, refusal_of_expansions, refusal_of_token};
+ghost use Rattle.aa_profile_grammar.specs.Patterns.{have_expansions, over_limit, patterns_at, refusal_of_expansion, refusal_of_expansions, refusal_of_token};
+ghost use Rattle.aa_glob_syntax.specs.Slashes.{collapsed};
 ghost use Rattle.aa_profile_grammar.specs.Refusals.{IsRefusal};
 ghost use Rattle.aa_profile_parsing.specs.ProfileError.{placed, plain};
 ghost use Rattle.aa_profile_parsing.specs.declared.profile_error.ProfileRefusal.TheVariants.{Memory};
 
 use aa_glob_pattern::{LONGEST_PATTERN, Pattern};
-use aa_glob_syntax::PatternError;
+use aa_glob_syntax::{PatternError, collapse};
 use aa_profile_parsing::{ProfileError, ProfileRefusal, place_of, placed};
 use aa_text_files::Place;
 use aa_text_tokens::Spliced;
@@ -42,13 +43,6 @@ pub fn check_limit(
         }
     }
     Ok(())
-}
-
-// Collapses each run of slashes of a text to one slash.
-fn collapse(text: &mut Vec<u8>)
-    ensures { text.new.items ≡ collapsed text.old.items }
-{
-    text.dedup_by(|byte, before| *byte == b'/' && *before == b'/');
 }
 
 // The pattern of an expansion.

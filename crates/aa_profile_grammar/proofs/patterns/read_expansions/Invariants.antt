@@ -1,5 +1,6 @@
 use Rattle.std.proofs.Common.{◌≡◌, ◌++◌, map}
-use Rattle.aa_profile_grammar.specs.Patterns.{collapsed, refusal_of_expansions}
+use Rattle.aa_glob_syntax.specs.Slashes.{collapsed}
+use Rattle.aa_profile_grammar.specs.Patterns.{refusal_of_expansions}
 use Rattle.aa_profile_grammar.proofs.patterns.read_expansions.Given as goal
 
 -- the patterns so far, and those of the texts that are left, are all, and what is left decides

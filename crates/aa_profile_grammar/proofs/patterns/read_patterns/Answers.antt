@@ -4,7 +4,8 @@ use Rattle.std.proofs.lemmas.Result.{IfErr-weaker, IfOk-weaker}
 use Rattle.aa_text_tokens.specs.SeenSplicedTokens.{seen_spliced}
 use Rattle.aa_profile_parsing.specs.Tokens.{place_of, text_of}
 use Rattle.aa_text_variables.specs.Expansions.{expansions}
-use Rattle.aa_profile_grammar.specs.Patterns.{collapsed, refusal_of_expansions}
+use Rattle.aa_glob_syntax.specs.Slashes.{collapsed}
+use Rattle.aa_profile_grammar.specs.Patterns.{refusal_of_expansions}
 use Rattle.aa_profile_parsing.specs.ProfileError.{placed}
 use Rattle.aa_profile_grammar.proofs.PatternLemmas.{both, patterns_told, refusals_told}
 use Rattle.aa_profile_grammar.proofs.patterns.read_patterns.Goals as goal

@@ -1,8 +1,8 @@
 use Rattle.std.proofs.Common.{◌∙◌, ◌==◌, ◌&&◌, rules}
 use Rattle.std.proofs.lemmas.Fn.{dedup_same}
 use Rattle.aa_bytes.specs.Bytes.{slash}
-use Rattle.aa_profile_grammar.proofs.PatternLemmas.{dedup_collapses}
-use Rattle.aa_profile_grammar.proofs.patterns.collapse.Goals as goal
+use Rattle.aa_glob_syntax.proofs.SlashLemmas.{dedup_collapses}
+use Rattle.aa_glob_syntax.proofs.slashes.collapse.Goals as goal
 
 pub returns : goal.returns
 returns c =
