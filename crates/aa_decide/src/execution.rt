@@ -18,7 +18,7 @@ use crate::attachment::{attach, attached_child};
 use crate::slots::by_full_name;
 use crate::stacks::{named_stack, to_stack};
 use aa_bytes::SharedBytes;
-use aa_decide_ready::{Confinement, IndexedSlots, Ready, ReadySection, Steps};
+use aa_decide_ready::{Confinement, IndexedSlots, Ready, ReadySection};
 use aa_decide_rules::{
     Answer, ExecChoice, ExecTo, ExecVerdict, Mediation, Tag, Verdict, exec_choice,
 };
@@ -307,7 +307,7 @@ fn own_start<'a>(
 
 /// What the rules of a profile, or of a child or hat, say together of the start of the program of a path (docs/policy.md, "The start of a program"):
 /// that it is denied, where a deny rule with `x` applies; that no rule applies to it; or where it leads, which is the transition of the first rule
-/// that dominates. One automaton finds the rules whose patterns match. `owned` says whether the task's user owns the file.
+/// that dominates. `owned` says whether the task's user owns the file.
 ///
 /// # Errors
 ///
@@ -320,7 +320,7 @@ pub fn choice_of<'a>(
 ) -> Result<ExecChoice<'a>, AllocError>
     ensures { IfOk result (λ found. seen_choice found ≡ choice section.entry.audit owned path.now section.entry.rules.now) }
 {
-    let places = section.matching_rules(alloc, path, &mut Steps::new())?;
+    let places = section.matching_once(alloc, path)?;
     exec_choice(
         alloc,
         section.audit,

@@ -1,5 +1,6 @@
 pub mod Confinement
 pub mod Entries
+pub mod FileAutomata
 pub mod Indexes
 pub mod Named
 pub mod Ready

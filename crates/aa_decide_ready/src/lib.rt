@@ -18,7 +18,7 @@ pub use confinement::Confinement;
 pub use entry::{Entry, State};
 pub use indexed::IndexedSlots;
 pub use names::NameIndex;
-pub use part::{file_places, picked, with_files};
+pub use part::{FileRules, file_places, picked, with_files};
 pub use ready::Ready;
 pub use section::ReadySection;
 pub use slots::{entry_at, find_named, slots_named};

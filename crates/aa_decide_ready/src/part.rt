@@ -8,7 +8,8 @@ ghost use Rattle.aa_glob.specs.Built.{IsBuilt};
 ghost use Rattle.aa_glob_pattern.specs.Beginnings.{HasStates};
 ghost use Rattle.aa_decide_ready.specs.Visits.{AreAllVisitsOf, AreFewStates, AreVisitsOf};
 ghost use Rattle.aa_profile_data.specs.Matching.{AreMatchingRules};
-ghost use Rattle.aa_decide_ready.specs.code.Parts.{AreFileRulesOf, ArePartsOf, HoldsOf, IsPartOf};
+ghost use Rattle.aa_decide_ready.specs.FileAutomata.{AreFileRulesOf};
+ghost use Rattle.aa_decide_ready.specs.code.Parts.{ArePartsOf, HoldsOf, IsPartOf};
 ghost use Rattle.aa_profile_data.specs.FileRules.{places_from, file_patterns};
 ghost use Rattle.aa_profile_data.specs.Picked.{picked};
 
@@ -19,7 +20,7 @@ use aa_glob_pattern::Pattern;
 use aa_profile_data::{Child, Rule, which_rules_match};
 use std::alloc::{AllocError, Global};
 
-/// The automaton of the file rules among some rules.
+/// The automaton of the file rules among some rules, and the places of these, for many paths.
 #[derive(Drop)]
 pub struct FileRules {
     // The automaton of their patterns, in the order of the rules.
@@ -148,8 +149,12 @@ impl FileRules {
         self.automaton.states()
     }
 
-    // The places of the file rules whose pattern matches a path.
-    fn matching(
+    /// The places of the file rules whose pattern matches a path, in rising order, among the rules of which the automaton was made.
+    ///
+    /// # Errors
+    ///
+    /// Where memory runs out.
+    pub fn matching(
         &self,
         alloc: Global,
         path: &[u8],
@@ -238,6 +243,11 @@ impl Part {
             Some(files) => files.matching(alloc, path, steps),
             None => FileRules::build(alloc, rules)?.matching(alloc, path, steps),
         }
+    }
+
+    /// Whether the automaton of the file rules is built.
+    pub fn is_built(&self) -> bool {
+        self.files.is_some()
     }
 
     /// The places of the attachments that match a path.

@@ -16,7 +16,7 @@ ghost use Rattle.aa_profile_data.specs.SeenRequests.{request_of};
 
 use crate::ready::Ready;
 use aa_decide_rules::{
-    Mediation, Verdict, found_verdict, rules_verdict, what_matching_rules_decide,
+    Mediation, Verdict, found_verdict, matching_rules, rules_verdict, what_matching_rules_decide,
 };
 use aa_glob_nfa::Steps;
 use aa_glob_pattern::{Pattern, how_many_states_there_are};
@@ -149,6 +149,31 @@ impl<'a> ReadySection<'a> {
         }
     }
 
+    // Whether the automaton of the file rules is built.
+    fn is_built(self) -> bool {
+        match self.ready.part_at(self.child) {
+            None => false,
+            Some(part) => part.is_built(),
+        }
+    }
+
+    /// The places of the rules on files whose pattern matches a path, in rising order, as [`ReadySection::matching_rules`] finds them, for who asks
+    /// once: no visits are counted, and where no automaton is built yet none is, but each rule is tried by itself.
+    ///
+    /// # Errors
+    ///
+    /// Where memory runs out.
+    pub fn matching_once(self, alloc: Global, path: &[u8]) -> Result<Vec<usize>, AllocError>
+        ensures found { IfOk result (λ places. AreMatchingRules self.entry.rules.now path.now places.items) }
+        ensures rise { IfOk result (λ places. IsStrictlyIncreasing places.items) }
+    {
+        if self.is_built() {
+            self.matching_rules(alloc, path, &mut Steps::new())
+        } else {
+            matching_rules(alloc, self.rules, path)
+        }
+    }
+
     /// The places of the attachments that match a path, in rising order. One automaton finds them.
     ///
     /// # Errors
@@ -200,6 +225,28 @@ impl<'a> ReadySection<'a> {
             }
             Request::Cap(_) => Ok(rules_verdict(mediation, audit, rules, request)),
             Request::Net { .. } => Ok(rules_verdict(mediation, audit, rules, request)),
+        }
+    }
+
+    /// Decides a request as [`ReadySection::decide`], for who asks once: no visits are counted, and where no automaton is built yet none is, but the
+    /// rules are gone over, without memory.
+    ///
+    /// # Errors
+    ///
+    /// Where memory runs out for a request for a file; for any other there is no error.
+    pub fn decide_once(
+        self,
+        alloc: Global,
+        mediation: Mediation,
+        request: &Request<'_>,
+    ) -> Result<Verdict, AllocError>
+        ensures verdict { IfOk result (λ verdict. verdict ≡ decided_by (seen_section self.entry) mediation (request_of request.entry.now)) }
+        ensures memory { OnErr result (is_for_file (request_of request.entry.now) ≡ true) }
+    {
+        if self.is_built() {
+            self.decide(alloc, mediation, request, &mut Steps::new())
+        } else {
+            Ok(rules_verdict(mediation, self.audit, self.rules, request))
         }
     }
 }

@@ -9,8 +9,6 @@ ghost use Rattle.aa_decide_ready.specs.Slots.{filled};
 ghost use Rattle.aa_decide_rules.specs.Choices.{choice};
 ghost use Rattle.aa_decide_rules.specs.SeenChoices.{seen_choice};
 ghost use Rattle.aa_explain_reach.specs.Patterns.{asked_rules};
-ghost use Rattle.aa_glob.specs.Automata.{IsAutomatonOf};
-ghost use Rattle.aa_profile_data.specs.FileRules.{file_patterns};
 ghost use Rattle.aa_profile_data.specs.Matching.{AreMatchingRules};
 
 use crate::patterns::asked_rules;
@@ -18,10 +16,8 @@ use aa_decide::{
     Asker, Confinement, ExecChoice, ExecVerdict, IndexedSlots, ReadySection, Steps, by_choice,
     exec_by,
 };
-use aa_decide_ready::{file_places, picked, with_files};
+use aa_decide_ready::FileRules;
 use aa_decide_rules::exec_choice;
-use aa_glob::{Automaton, AutomatonBuilder};
-use aa_profile_data::{Rule, which_rules_match};
 use std::alloc::{AllocError, Global};
 use std::marker::Model;
 
@@ -31,37 +27,23 @@ use std::marker::Model;
 pub struct ReadyAsker<'a> {
     /// Who asks.
     pub asker: Option<Asker<'a>>,
-    // The automaton of the patterns of the rules on files that are asked,
-    automaton: Automaton,
-    // and the places of these rules among all that are.
-    places: Vec<usize>,
+    // The automaton of the rules on files that are asked.
+    files: FileRules,
 }
 
 impl<'a> Model for ReadyAsker<'a> {
-    ghost use Rattle.std.specs.Prelude.{◌≡◌, Option};
+    ghost use Rattle.std.specs.Prelude.{Option};
     ghost use Rattle.std.specs.Option.{option_map};
     ghost use Rattle.aa_decide.specs.SeenExec.{seen_asker};
     ghost use Rattle.aa_decide.specs.declared.asker.Asker.{Asker};
+    ghost use Rattle.aa_decide_ready.specs.FileAutomata.{AreFileRulesOf};
     ghost use Rattle.aa_explain_reach.specs.Patterns.{asked_rules};
-    ghost use Rattle.aa_glob.specs.Automata.{IsAutomatonOf};
-    ghost use Rattle.aa_profile_data.specs.FileRules.{file_patterns, places_from};
 
     ghost Value = { Option Asker };
 
     ghost view = { λ r. r.asker };
 
-    ghost invariant = { λ r.
-        IsAutomatonOf r.automaton (file_patterns (asked_rules (option_map seen_asker r.asker)))
-        × (r.places.items ≡ places_from 0 (asked_rules (option_map seen_asker r.asker))) };
-}
-
-// The automaton of the patterns of the rules on files among some.
-fn automaton_of(alloc: Global, rules: &[Rule]) -> Result<Automaton, AllocError>
-    ensures { IfOk result (λ automaton. IsAutomatonOf automaton (file_patterns rules.now)) }
-{
-    let builder = AutomatonBuilder::new(alloc)?;
-    let added = with_files(builder, alloc, rules)?;
-    Ok(added.finish())
+    ghost invariant = { λ r. AreFileRulesOf r.files (asked_rules (option_map seen_asker r.asker)) };
 }
 
 impl<'a> ReadyAsker<'a> {
@@ -74,14 +56,8 @@ impl<'a> ReadyAsker<'a> {
     pub fn of(alloc: Global, asker: Option<Asker<'a>>) -> Result<ReadyAsker<'a>, AllocError>
         ensures { IfOk result (λ ready. ready ≡ asker.entry) }
     {
-        let rules = asked_rules(asker);
-        let automaton = automaton_of(alloc, rules)?;
-        let places = file_places(alloc, rules)?;
-        Ok(ReadyAsker {
-            asker,
-            automaton,
-            places,
-        })
+        let files = FileRules::build(alloc, asked_rules(asker))?;
+        Ok(ReadyAsker { asker, files })
     }
 
     // The places of the rules that are asked and whose pattern matches a path, in rising order.
@@ -89,9 +65,7 @@ impl<'a> ReadyAsker<'a> {
         ensures found { IfOk result (λ places. AreMatchingRules (asked_rules (option_map seen_asker self.now)) path.now places.items) }
         ensures rise { IfOk result (λ places. IsStrictlyIncreasing places.items) }
     {
-        which_rules_match();
-        let found = self.automaton.matching(alloc, path, &mut Steps::new())?;
-        picked(alloc, self.places.as_slice(), found.as_slice())
+        self.files.matching(alloc, path, &mut Steps::new())
     }
 }
 

@@ -10,11 +10,10 @@ ghost use Rattle.aa_explain_redundant.specs.code.Examples.{example_by};
 ghost use Rattle.aa_glob_paths.specs.AllPaths.{TellAllPaths};
 ghost use Rattle.aa_glob_paths.specs.Laws.{paths_of};
 ghost use Rattle.aa_glob_paths.specs.TooMany.{AreMoreTextsThan};
-ghost use Rattle.aa_profile_data.specs.Matching.{is_matching};
 
 use crate::asking::tried_patterns;
 use crate::written::{NumberedRule, WrittenRules, is_made_of, numbered};
-use aa_decide_rules::covers;
+use aa_decide_rules::{covers, is_matching};
 use aa_explain_paths::{standing_paths, unasked_patterns};
 use aa_glob::AutomatonBuilder;
 use aa_glob_paths::{Outcome, outcomes_stand_for_all};
@@ -129,16 +128,6 @@ fn places_beside(
         rest = behind;
     }
     Ok(beside)
-}
-
-// Whether a rule is on files, and its pattern matches a path.
-fn is_matching(path: &[u8], rule: &Rule) -> bool
-    ensures { result ≡ is_matching path.now rule.now }
-{
-    match rule {
-        Rule::File(rule) => rule.pattern.matches(path),
-        Rule::Cap(_) | Rule::Net(_) | Rule::Other(_) => false,
-    }
 }
 
 // Whether a rule on files was made of a written rule, and matches a path.

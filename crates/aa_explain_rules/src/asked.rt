@@ -4,8 +4,8 @@ ghost use Rattle.std.specs.Prelude.{◌≡◌, IfOk};
 ghost use Rattle.aa_profile_data.specs.SeenRequests.{request_of};
 ghost use Rattle.aa_explain_rules.specs.Asked.{audits_of, concerned, concerns, rules_of};
 
-use aa_decide_ready::{ReadySection, Steps};
-use aa_decide_rules::applies;
+use aa_decide_ready::ReadySection;
+use aa_decide_rules::{applies, is_matching};
 use aa_profile_data::{Request, Rule};
 use std::alloc::{AllocError, Global};
 
@@ -19,7 +19,7 @@ pub enum AskedRules<'a> {
         /// The rules, in their order.
         rules: &'a [Rule],
     },
-    /// The rules of a loaded profile, or of a child or hat of it: one automaton finds the patterns that match.
+    /// The rules of a loaded profile, or of a child or hat of it: its automaton finds the patterns that match, where it is built.
     Loaded(ReadySection<'a>),
 }
 
@@ -27,11 +27,10 @@ pub enum AskedRules<'a> {
 fn concerns(request: &Request<'_>, rule: &Rule) -> bool
     ensures { result ≡ concerns (request_of request.entry.now) rule.now }
 {
-    match (request, rule) {
-        (Request::File { path, .. }, Rule::File(rule)) => rule.pattern.matches(path),
-        (Request::File { .. }, _) => false,
-        (Request::Cap(_), _) => applies(request, rule),
-        (Request::Net { .. }, _) => applies(request, rule),
+    match request {
+        Request::File { path, .. } => is_matching(path, rule),
+        Request::Cap(_) => applies(request, rule),
+        Request::Net { .. } => applies(request, rule),
     }
 }
 
@@ -65,7 +64,7 @@ fn concerned_loaded(
     ensures { IfOk result (λ places. places.items ≡ concerned (request_of request.entry.now) section.entry.rules.now) }
 {
     match request {
-        Request::File { path, .. } => section.matching_rules(alloc, path, &mut Steps::new()),
+        Request::File { path, .. } => section.matching_once(alloc, path),
         Request::Cap(_) => concerned_listed(alloc, section.rules, request),
         Request::Net { .. } => concerned_listed(alloc, section.rules, request),
     }

@@ -5,7 +5,7 @@ mod MatchingLemmas
 pub mod NameStackLemmas
 pub mod NumberLemmas
 pub mod PartLemmas
-mod PickedLemmas
+pub mod PickedLemmas
 pub mod PlaceLemmas
 pub mod RankLemmas
 pub mod SameLemmas

@@ -20,8 +20,8 @@ use crate::show::show_lines;
 use crate::stacks::stack_name;
 use aa_bytes::{Sequence, push_text};
 use aa_decide::{
-    Answer, Confinement, ExecTo, ExecVerdict, IndexedSlots, Request, StackBase, Steps, Verdict,
-    entry_at, exec_by, exec_line, find_loaded, log_line,
+    Answer, Confinement, ExecTo, ExecVerdict, IndexedSlots, Request, StackBase, Verdict, entry_at,
+    exec_by, exec_line, find_loaded, log_line,
 };
 use aa_profile_data::Profile;
 use aa_set_commands::{Refusal, RefusalKind, plain};
@@ -82,7 +82,7 @@ fn confined_told(
         Confinement::Unconfined => unconfined(alloc),
         Confinement::ByName => unconfined(alloc),
         Confinement::By { section, mediation } => {
-            let verdict = section.decide(alloc, mediation, request, &mut Steps::new())?;
+            let verdict = section.decide_once(alloc, mediation, request)?;
             told_verdict(alloc, who, request, &verdict)
         }
     }

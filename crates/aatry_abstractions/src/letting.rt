@@ -6,7 +6,7 @@ ghost use Rattle.aatry_abstractions.specs.Letting.{IsNarrowestFirst, is_allow, l
 ghost use Rattle.aatry_abstractions.specs.SeenLetting.{seen_letting};
 
 use crate::probes::{abstraction, is_abstraction, probed};
-use aa_decide::{Answer, Mediation, Ready, Request, Steps};
+use aa_decide::{Answer, Mediation, Ready, Request};
 use aa_profile_parsing::Language;
 use aa_text_files::Files;
 use std::alloc::{AllocError, Global};
@@ -49,7 +49,7 @@ fn lets(alloc: Global, profile: &mut Ready, request: &Request<'_>) -> Result<boo
     remember(alloc, profile, request);
     let verdict = profile
         .section(None)
-        .decide(alloc, Mediation::Enforcing, request, &mut Steps::new())?;
+        .decide_once(alloc, Mediation::Enforcing, request)?;
     Ok(is_allow(verdict.answer))
 }
 

@@ -10,7 +10,6 @@ ghost use Rattle.aa_set_answers.specs.Askers.{asker};
 ghost use Rattle.aatry_log_rules.specs.Outcomes.{outcome_by, outcome_in, outcome_of, outcome_under, rules_by};
 
 use aa_decide::{Answer, Asker, Confinement, IndexedSlots};
-use aa_decide_ready::Steps;
 use aa_decide_rules::Mediation;
 use aa_explain_rules::AskedRules;
 use aa_profile_data::Request;
@@ -46,7 +45,7 @@ fn outcome_by(alloc: Global, asker: Asker<'_>, request: &Request<'_>) -> Result<
     ensures { IfOk result (λ outcome. outcome ≡ outcome_by (seen_asker asker.entry) (request_of request.entry.now)) }
 {
     let section = asker.entry.ready().section(asker.child);
-    let verdict = section.decide(alloc, Mediation::Enforcing, request, &mut Steps::new())?;
+    let verdict = section.decide_once(alloc, Mediation::Enforcing, request)?;
     Ok(outcome_of(verdict.answer))
 }
 

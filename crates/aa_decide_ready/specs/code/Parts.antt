@@ -6,14 +6,8 @@ use Rattle.aa_profile_data.specs.declared.profile.Profile.{Profile}
 use Rattle.aa_profile_data.specs.declared.profile.Rule.{Rule}
 use Rattle.aa_decide_ready.specs.Visits.{attachments_at}
 use Rattle.aa_decide_ready.specs.Ready.{rules_at}
-use Rattle.aa_decide_ready.specs.declared.part.FileRules.{FileRules}
+use Rattle.aa_decide_ready.specs.FileAutomata.{AreFileRulesOf}
 use Rattle.aa_decide_ready.specs.declared.part.Part.{Part}
-use Rattle.aa_profile_data.specs.FileRules.{places_from, file_patterns}
-
--- this was made of the file rules among some rules
-pub record AreFileRulesOf (made : FileRules) (rules : List Rule) : Type 0 where
-  pub automaton : IsAutomatonOf made.automaton (file_patterns rules)
-  pub places : made.places ≡ places_from 0 rules
 
 -- a part was made of these rules and attachments: the rules may not have been made ready yet
 pub record IsPartOf (part : Part) (rules : List Rule) (attachments : List (List ℕ)) : Type 0 where

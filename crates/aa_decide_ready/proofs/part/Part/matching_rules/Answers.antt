@@ -1,5 +1,5 @@
 use Rattle.std.proofs.lemmas.Result.{IfOk-weaker}
-use Rattle.aa_decide_ready.specs.code.Parts.{AreFileRulesOf}
+use Rattle.aa_decide_ready.specs.FileAutomata.{AreFileRulesOf}
 use Rattle.aa_decide_ready.proofs.part.Part.matching_rules.Goals as goal
 
 pub returns-in-Some-clause-found : goal.returns-in-Some-clause-found
