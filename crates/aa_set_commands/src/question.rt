@@ -2,6 +2,7 @@
 
 ghost use Rattle.std.specs.Prelude.{◌≡◌, ◌==◌, ◌<◌, [], ◌∷◌, Ok, Err, IfOk, IfErr, IfSome, map, codes};
 ghost use Rattle.std.specs.Str.{bytes_eq};
+ghost use Rattle.aa_bytes.specs.Texts.{has_byte};
 ghost use Rattle.aa_profile_data.specs.Access.{needs_of};
 ghost use Rattle.aa_set_commands.specs.Question.{seen_question, capability_question, exec_question, file_question, is_path, owned_of};
 ghost use Rattle.aa_set_commands.specs.Question.{question_of, socket_question, type_number, IsWellFormed};
@@ -9,10 +10,11 @@ ghost use Rattle.aa_profile_data.specs.Capabilities.{capability_number};
 ghost use Rattle.aa_profile_data.specs.Domains.{domain_number};
 
 use crate::refusal::{Refusal, RefusalKind, plain};
-use aa_bytes::{begins_with_byte, has_byte};
+use aa_bytes::begins_with_byte;
 use aa_profile_data::{
     Perms, capability_number, domain_number, is_protocol, kind_number, which_numbers_names_have,
 };
+use memchr::memchr;
 
 /// A question to a policy set.
 #[derive(Clone, Copy, Debug, PartialEq, Eq)]
@@ -225,5 +227,15 @@ fn read_owned(word: &[u8]) -> Option<bool>
 pub fn is_path(word: &[u8]) -> bool
     ensures { result ≡ is_path word.now }
 {
-    begins_with_byte(b'/', word) && !has_byte(0, word)
+    begins_with_byte(b'/', word) && !has_zero(word)
+}
+
+// Whether a word has a byte 0.
+fn has_zero(word: &[u8]) -> bool
+    ensures { result ≡ has_byte 0 word.now }
+{
+    match memchr(0, word) {
+        Some(_) => true,
+        None => false,
+    }
 }

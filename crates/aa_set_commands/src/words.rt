@@ -9,7 +9,7 @@ ghost use Rattle.aa_set_commands.specs.Limits.{most_words};
 ghost use Rattle.aa_set_commands.specs.code.FirstWord.{IsFirstWord};
 ghost use Rattle.aa_set_commands.specs.Words.{words_of, words_in_quotes, is_word_end, is_quote, is_command_blank};
 
-use aa_bytes::length_while;
+use memchr::{memchr, memchr3};
 use thiserror::Error;
 
 // How many words a line may have: the longest command has fewer.
@@ -100,7 +100,10 @@ fn word_length(text: &[u8]) -> usize
     ensures value { result ≡ prefix_len (λ b. not (is_command_blank b)) text.now }
     ensures within { result ≤ length text.now }
 {
-    length_while(text, |byte| !is_command_blank(byte))
+    match memchr3(b' ', b'\t', b'\r', text) {
+        Some(end) => end,
+        None => text.len(),
+    }
 }
 
 // The word that ends at a text's first quote, and what follows that quote.
@@ -124,7 +127,10 @@ fn quoted_length(text: &[u8]) -> usize
     ensures value { result ≡ prefix_len (λ b. not (is_quote b)) text.now }
     ensures within { result ≤ length text.now }
 {
-    length_while(text, |byte| byte != b'"')
+    match memchr(b'"', text) {
+        Some(end) => end,
+        None => text.len(),
+    }
 }
 
 fn is_command_blank(byte: u8) -> bool
