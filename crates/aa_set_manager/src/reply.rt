@@ -55,7 +55,10 @@ fn obey(files: &Files, manager: &mut Manager, command: Command<'_>) -> Reply
             answered(manager.ask(&question))
         }
         Command::List => answered(manager.list()),
-        Command::Show(name) => answered(manager.show(name)),
+        Command::Show(name) => {
+            manager.index_names();
+            answered(manager.show(name))
+        }
     }
 }
 
