@@ -26,7 +26,7 @@ end
 
 complete -c aaset -f -a '(__aaset_names)'
 complete -c aaset -s C -d 'Loads each profile in complain mode'
-complete -c aaset -s b -x -a '(__fish_complete_directories)' -d 'The folder of policy'
-complete -c aaset -l language -x -a '3 4' -d 'Reads policy by language N'
+complete -c aaset -s b -x -a '(__fish_complete_directories)' -d 'The policy directory'
+complete -c aaset -l language -x -a '3 4' -d 'Reads policy in language N'
 complete -c aaset -s h -l help -d 'Prints help'
 complete -c aaset -s V -l version -d 'Prints the version'

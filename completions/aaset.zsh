@@ -10,8 +10,8 @@ _aaset_names() {
 _aaset() {
     local curcontext=$curcontext state line
     local -A opt_args
-    _arguments -s -S '-C[Loads each profile in complain mode]' '-b+[The folder of policy]:DIR:_files -/' \
-        '--language=[Reads policy by language N]:N:(3 4)' '(- *)'{-h,--help}'[Prints help]' '(- *)'{-V,--version}'[Prints the version]' \
+    _arguments -s -S '-C[Loads each profile in complain mode]' '-b+[The policy directory]:DIR:_files -/' \
+        '--language=[Reads policy in language N]:N:(3 4)' '(- *)'{-h,--help}'[Prints help]' '(- *)'{-V,--version}'[Prints the version]' \
         '*:NAME: _aaset_names'
 }
 

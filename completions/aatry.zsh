@@ -75,10 +75,10 @@ _aatry() {
     local curcontext=$curcontext state line
     local -A opt_args
     local -a base language records verbose help
-    base=('-b+[The folder of policy]:DIR:_files -/')
-    language=('--language=[Reads policy by language N]:N:(3 4)' '--color=[When lines are in colours]:WHEN:(auto always never)')
-    records=('--json[Tells in records of JSON]')
-    verbose=('--verbose[Tells each file first that is left out, and why]')
+    base=('-b+[The policy directory]:DIR:_files -/')
+    language=('--language=[Reads policy in language N]:N:(3 4)' '--color=[When to show lines in colours]:WHEN:(auto always never)')
+    records=('--json[Prints JSON records]')
+    verbose=('--verbose[First lists each file that is left out, and why]')
     help=('(- *)'{-h,--help}'[Prints help]')
     if (( CURRENT == 2 )); then
         _values command check why log who never always reach diff session test
@@ -89,26 +89,26 @@ _aatry() {
     shift words
     (( CURRENT-- ))
     case $command in
-    check) _arguments -S $base $language $records $help '--rules[Tells rules that decide nothing]' \
-        '--included[With --rules, tries rules of included files, too]' '--limit=[With --rules, how many sets of states are looked at]:N' \
+    check) _arguments -S $base $language $records $help '--rules[Reports rules that decide nothing]' \
+        '--included[With --rules, also tries rules of included files]' '--limit=[With --rules, the most sets of states to look at]:N' \
         '*:NAME: _aatry_files' ;;
     why | who) _arguments -S $base $language $records $verbose $help "*::word: _aatry_question $command" ;;
-    never) _arguments -S $base $language $records $verbose $help '--names[Tells no rules]' \
-        '--limit=[How many sets of states are looked at]:N' '*::word: _aatry_claimed' ;;
-    always) _arguments -S $base $language $records $verbose $help '--names[Tells no rules]' \
-        '--limit=[How many sets of states are looked at]:N' ':ACCESS' ':OWNED:(owner other any)' ':PATTERN' '*:WHO: _aatry_names' ;;
-    reach) _arguments -S $base $language $records $verbose $help '--dot[Tells a graph for graphviz]' \
-        '--limit=[How many sets of states are looked at]:N' '*:WHO: _aatry_names unconfined' ;;
-    log) _arguments -S $base $language $records $verbose $help '--denied[Passes over requests that were not denied]' \
-        '--profile=[Passes over requests of others]:NAME: _aatry_names' '--since=[Passes over what came before]:WHEN' \
-        '--rules[Tells rules to add]' '--globs[Offers wider rules beside these]' \
-        '--strict[Ends with 1 where a line was not answered]' '*:FILE:_files' ;;
-    diff) _arguments -S $language $records $verbose $help '--stat[Tells how much differs]' '--log=[Asks both what a log asked]:FILE:_files' \
-        '--questions=[Asks both the questions of a file]:FILE:_files' '--all[Compares the answers of all paths]' \
-        '--quiet-audit[With --all, passes over audit lines]' '--limit=[With --all, how many sets of states are looked at]:N' \
+    never) _arguments -S $base $language $records $verbose $help '--names[Prints no rules]' \
+        '--limit=[The most sets of states to look at]:N' '*::word: _aatry_claimed' ;;
+    always) _arguments -S $base $language $records $verbose $help '--names[Prints no rules]' \
+        '--limit=[The most sets of states to look at]:N' ':ACCESS' ':OWNED:(owner other any)' ':PATTERN' '*:WHO: _aatry_names' ;;
+    reach) _arguments -S $base $language $records $verbose $help '--dot[Prints a graph for Graphviz]' \
+        '--limit=[The most sets of states to look at]:N' '*:WHO: _aatry_names unconfined' ;;
+    log) _arguments -S $base $language $records $verbose $help '--denied[Skips requests that were not denied]' \
+        '--profile=[Skips requests of other profiles]:NAME: _aatry_names' '--since=[Skips lines stamped before]:WHEN' \
+        '--rules[Prints the rules to add]' '--globs[Also offers wider rules]' \
+        '--strict[Exits with 1 if a line was not answered]' '*:FILE:_files' ;;
+    diff) _arguments -S $language $records $verbose $help '--stat[Prints how much differs]' '--log=[Asks both what a log asked]:FILE:_files' \
+        '--questions=[Asks both the questions of a file]:FILE:_files' '--all[Compares the answers for all paths]' \
+        '--quiet-audit[With --all, ignores audit lines]' '--limit=[With --all, the most sets of states to look at]:N' \
         ':OLD:_files -/' ':NEW:_files -/' '*:WHO: ' ;;
     session) _arguments -S $base $language $help ;;
-    test) _arguments -S $base $language $help '--accept[Writes what is told in place of what is wanted]' '*:FILE:_files' ;;
+    test) _arguments -S $base $language $help '--accept[Updates transcripts with the actual replies]' '*:FILE:_files' ;;
     esac
 }
 

@@ -10,38 +10,38 @@ use std::alloc::{AllocError, Global};
 
 // What help prints after the arguments and options.
 const MORE_HELP: &str = "\
-A NAME that begins with / is read as it stands, and any other one below DIR, which is
-/etc/apparmor.d unless it is given. Each file is read once, before the first command:
-what changes on disk later isn't seen. Includes are looked up among the NAMEs alone. So
-each included file has to be named too, and each included folder by a NAME that ends in
-/: such a NAME declares the folder, and loads nothing of it.
+A NAME that begins with / is read as it stands, and any other below DIR (default:
+/etc/apparmor.d). Each file is read once, before the first command: later changes on disk
+aren't seen. Includes are looked up among the NAMEs only, so each included file must be
+named too, and each included directory by a NAME that ends in /: such a NAME declares the
+directory, and loads nothing of it.
 
-Commands, one a line:
+Commands, one per line:
   add FILE                             Adds the profiles of a FILE, which is one of the NAMEs
-  replace FILE                         Puts each in the place of the one of its name, or adds it
-  remove FILE                          Takes out the profiles that have the names of the FILE's
+  replace FILE                         Replaces each profile of the same name, or adds it
+  remove FILE                          Removes the profiles that have the names of the FILE's
   enforce NAME, complain NAME          Sets the mode of the profile NAME, its children and hats
-  disable NAME                         Takes the profile NAME out of force
-  undo [N], redo [N]                   Goes N accepted changes back or forward, 1 without N
-  mark NAME                            Keeps the present place in the history under NAME
+  disable NAME                         Disables the profile NAME
+  undo [N], redo [N]                   Goes N accepted changes back or forward (default: 1)
+  mark NAME                            Saves the present place in the history as NAME
   back NAME                            Goes there, back or forward, and drops no change
-  ask file NAME ACCESS OWNED PATH      Tells what the profile NAME answers to a request: ACCESS
+  ask file NAME ACCESS OWNED PATH      Prints what the profile NAME answers to a request: ACCESS
                                        is letters of rwalkm, OWNED is `owner` or `other`
-  ask exec NAME OWNED PATH             Tells under what a program runs that NAME starts
-  ask cap NAME CAPABILITY              Tells what it answers to a request for a capability
-  ask net NAME DOMAIN TYPE             Tells what it answers to a request for a socket
-  list                                 Tells all profiles, children and hats and their states
-  show NAME                            Tells the rules of the profile, child or hat NAME
+  ask exec NAME OWNED PATH             Prints under what a program that NAME starts runs
+  ask cap NAME CAPABILITY              Prints what it answers to a request for a capability
+  ask net NAME DOMAIN TYPE             Prints what it answers to a request for a socket
+  list                                 Lists all profiles, children and hats and their states
+  show NAME                            Shows the rules of the profile, child or hat NAME
 
-Changes are of the profiles that are kept here, and so is what `undo` takes back: no
-kernel is touched. Rules on files, capabilities and sockets (`network`) are asked. Those
-on signal, ptrace, unix, dbus, mount and all other kinds are kept, and decide nothing.
+Commands change the profiles that are kept here, and `undo` undoes only that: the kernel
+isn't touched. Rules on files, capabilities and sockets (`network`) are asked. Those on
+signal, ptrace, unix, dbus, mount and all other kinds are kept, and decide nothing.
 
 Exit status:
-  0  Each command was accepted, or help or the version was asked for
+  0  Each command was accepted, or help or the version was requested
   1  Some command was refused
-  2  The arguments are bad, or a NAME can't be taken
-  3  Reading or writing failed, or there was no memory to begin";
+  2  Bad arguments, or a NAME can't be taken
+  3  A read or write failed, or there was no memory to begin";
 
 // The option for the language by which files are read.
 fn language_argument<'a>(alloc: Global) -> Arg<'a>
@@ -52,7 +52,7 @@ fn language_argument<'a>(alloc: Global) -> Arg<'a>
         alloc,
         "LANGUAGE",
         "language",
-        "The language of policy: 3, which is meant without this option, or 4",
+        "The policy language, 3 or 4 (default: 3)",
     )
 }
 
@@ -65,7 +65,7 @@ fn complain_argument<'a>(alloc: Global) -> Arg<'a>
         alloc,
         "COMPLAIN",
         'C',
-        "Load every profile in complain mode, whatever its flags say",
+        "Loads every profile in complain mode, whatever its flags say",
     )
 }
 
@@ -78,7 +78,7 @@ fn base_argument<'a>(alloc: Global) -> Arg<'a>
         alloc,
         "DIR",
         'b',
-        "The folder below which relative NAMEs lie (apparmor_parser's -b: includes alone)",
+        "The directory of relative NAMEs (apparmor_parser's -b: of includes only)",
     )
 }
 
@@ -91,7 +91,7 @@ fn name_argument<'a>(alloc: Global) -> Arg<'a>
         alloc,
         "NAME",
         true,
-        "A file to be read, or, where it ends in `/`, a folder that is only declared",
+        "A file to read, or, if it ends in `/`, a directory that is only declared",
     )
 }
 
@@ -101,7 +101,7 @@ fn bare_command<'a>(alloc: Global) -> Command<'a>
 {
     crate::line::bare_command(alloc, "aaset")
         .version(VERSION)
-        .about("Answers requests to a set of AppArmor profiles, with commands from standard input")
+        .about("Queries and changes a set of AppArmor profiles by commands from standard input")
         .after_help(MORE_HELP)
 }
 

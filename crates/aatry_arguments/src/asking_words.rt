@@ -12,7 +12,7 @@ use std::alloc::Global;
 
 // The help on `who`.
 const WHO_HELP: &str = "\
-Tells which profiles, children and hats would let through what a question asks for
+Lists the profiles, children and hats that would allow a request
 
 Usage: aatry who [OPTIONS] [file] ACCESS OWNED PATH
        aatry who [OPTIONS] exec OWNED PATH
@@ -20,70 +20,70 @@ Usage: aatry who [OPTIONS] [file] ACCESS OWNED PATH
        aatry who [OPTIONS] net DOMAIN TYPE
 
 Arguments:
-  ACCESS  One or more of the letters r w a l k m, none twice
-  OWNED   owner where the task owns the file, other where it doesn't
-  PATH    The file, or the program that is started, by its whole path
-  NAME    A capability, as net_admin or CAP_NET_ADMIN
-  DOMAIN  A domain of sockets, as inet
-  TYPE    A type of sockets, as stream
+  ACCESS  One or more of the letters r w a l k m, none repeated
+  OWNED   owner if the task owns the file, other if it doesn't
+  PATH    The absolute path of the file, or of the program that is started
+  NAME    A capability, such as net_admin or CAP_NET_ADMIN
+  DOMAIN  A socket domain, such as inet
+  TYPE    A socket type, such as stream
 
 Options:
-  -b <DIR>    The folder of policy, /etc/apparmor.d unless it is given
-  --verbose   Tells each file first that is left out, and why
-  --json      Tells in records of JSON, one a line
+  -b <DIR>    The policy directory (default: /etc/apparmor.d)
+  --verbose   First lists each file that is left out, and why
+  --json      Prints JSON records, one per line
   -h, --help  Prints help
 
-All files below DIR are read, as check reads them; those at its top that are refused are left out,
-and how many these are stands on standard error. Of each profile, child and
-hat that would let it through a line is told, with its full name:
-  WHO: allow           It lets it through. Below stand the rules that do, each with its place
-  WHO: allow to OTHER  It may start the program, which runs under OTHER; scrub stands behind
-                       where its environment is scrubbed. The rules stand below likewise
-  WHO: complain        Its rules don't, and it is in complain mode; of a start: complain null
-  WHO: unconfined      None of its rules is asked, since its mode is unconfined or it is disabled
+All files below DIR are read as by check. Files at its top that are refused are left out, and their
+number is reported on standard error. For each profile, child and hat that would allow the request
+a line is printed, with its full name:
+  WHO: allow           Its rules allow it. They follow, each with its place
+  WHO: allow to OTHER  It may start the program, which runs under OTHER; scrub follows if the
+                       environment is scrubbed. The rules follow as above
+  WHO: complain        Its rules don't, but it is in complain mode; for a start: complain null
+  WHO: unconfined      None of its rules is asked: its mode is unconfined or it is disabled
 
 Exit status:
-  0  Some profile, child or hat would let it through, or help was asked for
+  0  Some profile, child or hat would allow it, or help was requested
   1  None would
-  2  The arguments or the question are bad, or DIR, or a file or folder below it, can't be read
-  3  Writing failed, or memory ran out
+  2  Bad arguments or question, or DIR, or a file or directory below it, can't be read
+  3  A write failed, or memory ran out
 ";
 
 // The help on `why`.
 const WHY_HELP: &str = "\
-Tells the answer to a question, and the rules behind it
+Explains the answer to a question with the rules behind it
 
 Usage: aatry why [OPTIONS] WORD..
        aatry why [OPTIONS] LINE
 
 Arguments:
-  WORD..  The words of a question, as behind ask of aaset:
+  WORD..  The words of a question, as after ask of aaset:
             file WHO ACCESS OWNED PATH
             exec WHO OWNED PATH
             cap WHO NAME
             net WHO DOMAIN TYPE
-  LINE    A line of a kernel's log, as one word: it asks what the line tells of
+  LINE    A line of a kernel log, as one word: asks about the request that it logs
 
 Options:
-  -b <DIR>    The folder of policy, /etc/apparmor.d unless it is given
-  --verbose   Tells each file first that is left out, and why
-  --json      Tells in records of JSON, one a line
+  -b <DIR>    The policy directory (default: /etc/apparmor.d)
+  --verbose   First lists each file that is left out, and why
+  --json      Prints JSON records, one per line
   -h, --help  Prints help
 
-All files below DIR are read, as check reads them; those at its top that are refused are left out,
-and how many these are stands on standard error. WHO is a profile, child or hat, or unconfined.
-The answer is told, with its audit line if there is one, as ask of aaset tells it. Below stand the
-rules behind it, under one of these, each with FILE:LINE:COLUMN: where it is written.
-  denied by      They deny the request, or a part of it
-  allowed by     They allow it, or a part of it
+All files below DIR are read as by check. Files at its top that are refused are left out, and their
+number is reported on standard error. WHO is a profile, child or hat, or unconfined.
+The answer is printed, with its audit line if there is one, as by ask of aaset. The rules behind it
+follow, each with FILE:LINE:COLUMN: where it is written, under one of these headings:
+  denied by      They deny the request, or part of it
+  allowed by     They allow it, or part of it
   audited by     They ask for the audit line
-  nearest rules  They are on the path, but allow other access to it, or allow it the owner alone
+  nearest rules  They match the path, but allow other access to it, or allow it only to the owner
 
 Exit status:
-  0  The question was answered, or help was asked for
-  1  WHO isn't there
-  2  The arguments or the question are bad, or DIR, or a file or folder below it, can't be read
-  3  Writing failed, or memory ran out
+  0  The question was answered, or help was requested
+  1  WHO doesn't exist
+  2  Bad arguments or question, or DIR, or a file or directory below it, can't be read
+  3  A write failed, or memory ran out
 ";
 
 // The question of words that were read as a check.

@@ -10,30 +10,30 @@ use std::alloc::{AllocError, Global};
 
 // The help after the arguments and options.
 const MORE_HELP: &str = "\
-Without a NAME each file at the top of DIR is checked. All files below DIR are read, and
-includes are looked up among them; passed over are hidden files, README, `*~`, what package
-managers leave, as `*.dpkg-old`, and the folders disable, force-complain and cache*.
+Without a NAME, each file at the top of DIR is checked. All files below DIR are read, and includes
+are looked up among them. Skipped are hidden files, README, `*~`, leftovers of package managers,
+such as `*.dpkg-old`, and the directories disable, force-complain and cache*.
 
-Of each file one of these is told:
+For each file one of these is printed:
   FILE: taken: PROFILE..           The file is taken, with these profiles
   FILE:LINE:COLUMN: what is wrong  It is refused. The line follows, with a caret below it
 
-Rules of kinds that decide nothing here, as mount or dbus, are read and counted. With --json, which
-stands ahead of any --, each file is told as a record of JSON, on a line of its own.
+Rules of kinds that decide nothing here, such as mount or dbus, are read and counted. With --json,
+which must come before any --, each file is reported as a JSON record on a line of its own.
 
-With --rules the written rules on files are told in place of that which decide nothing: without all
-of these nothing is answered otherwise, nor logged, nor started under another profile, of no path.
-Below each stand a path and the rules that decide there. All files below DIR are loaded, as why loads
-them. Ahead of any -- may stand beside it
-  --included   Tries rules of included files, too, and not only the profile's own
-  --limit <N>  How many sets of states are looked at, at most, for each profile, child and hat;
-               262144 if none is given
+With --rules, the written file rules that decide nothing are reported instead: without all of them,
+no path is answered or logged differently, and none starts under another profile. Each is followed
+by a path and the rules that decide there. Profiles with attachments follow to which no path at all
+is attached. All files below DIR are loaded as by why. These options may be added before any --:
+  --included   Also tries rules of included files, not only the profile's own
+  --limit <N>  The most sets of states to look at for each profile, child and hat (default: 262144)
 
 Exit status:
-  0  Each file was taken, or help was asked for; with --rules: each rule that was tried decides something
+  0  Each file was taken, or help was requested; with --rules: each rule tried decides something
   1  Some file was refused; with --rules: some rule decides nothing
-  2  The arguments are bad, or DIR, or a file or folder below it, can't be read
-  3  Writing failed, or memory ran out; with --rules: too many sets for somebody, and no rule is told";
+  2  Bad arguments, or DIR, or a file or directory below it, can't be read
+  3  A write failed, or memory ran out; with --rules: there are too many sets for some profile,
+     child or hat, and no rule is reported";
 
 // The option for the folder of policy.
 fn base_argument<'a>(alloc: Global) -> Arg<'a>
@@ -44,7 +44,7 @@ fn base_argument<'a>(alloc: Global) -> Arg<'a>
         alloc,
         "DIR",
         'b',
-        "The folder of policy, /etc/apparmor.d unless it is given",
+        "The policy directory (default: /etc/apparmor.d)",
     )
 }
 
@@ -57,7 +57,7 @@ fn name_argument<'a>(alloc: Global) -> Arg<'a>
         alloc,
         "NAME",
         false,
-        "A file of the folder to check, in place of all files at its top",
+        "A file of the directory to check, instead of all files at its top",
     )
 }
 
@@ -66,9 +66,7 @@ fn bare_command<'a>(alloc: Global) -> Command<'a>
     ensures { app_of result ≡ bare_line (codes "aatry check") }
 {
     aa_start::bare_command(alloc, "aatry check")
-        .about(
-            "Tells of each file of a folder of AppArmor policy whether it is taken, or what is wrong with it",
-        )
+        .about("Checks each file of a policy directory, and reports what is wrong with it")
         .after_help(MORE_HELP)
 }
 

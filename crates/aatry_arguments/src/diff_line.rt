@@ -28,7 +28,7 @@ fn folder_argument<'a>(alloc: Global) -> Arg<'a>
     ensures rule { rule_of result ≡ folder_rule }
     ensures local { result.global ≡ false }
 {
-    aa_start::other_words(alloc, "FOLDER", false, "A folder of policy")
+    aa_start::other_words(alloc, "FOLDER", false, "A policy directory")
 }
 
 /// The command line after `diff` as `clap` is to read it.

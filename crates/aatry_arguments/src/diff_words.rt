@@ -17,7 +17,7 @@ pub const STAT: &str = "--stat";
 
 /// The help on `diff`.
 pub const HELP: &str = "\
-Tells which profiles of two folders of policy differ, and which requests they answer otherwise
+Compares two policy directories: which profiles differ, and what they answer differently
 
 Usage: aatry diff OLD NEW
        aatry diff OLD NEW --log FILE
@@ -25,58 +25,57 @@ Usage: aatry diff OLD NEW
        aatry diff --all OLD NEW [WHO]..
 
 Arguments:
-  OLD      A folder of policy
-  NEW      The folder of policy that is to take its place
-  [WHO]..  Profiles, children or hats, by their full names; all, where none is given
+  OLD      A policy directory
+  NEW      The policy directory that is to replace it
+  [WHO]..  Full names of profiles, children or hats (default: all)
 
 Options:
-  --log <FILE>        A log that tells of requests, as audit.log or syslog
-  --questions <FILE>  A file of questions, each a line of the words behind ask of aaset
-  --stat              Tells how many lines of each profile differ, and not which; with --all, in a
-                      word how the answers of each change, and not which
-  --all               Compares what is answered of all paths, capabilities and pairs of sockets
-  --quiet-audit       With --all, answers that differ in how they are logged alone are the same
-  --limit <N>         With --all, how many sets of states are looked at, at most, for each WHO;
-                      262144 if none is given
-  --verbose           Tells each file first that is left out, and why
-  --json              Tells in records of JSON, one a line
+  --log <FILE>        A log of requests, such as audit.log or syslog
+  --questions <FILE>  A file of questions, one per line, in the words after ask of aaset
+  --stat              Prints how many lines of each profile differ, not which; with --all, a word
+                      for how the answers of each change, not which
+  --all               Compares the answers for all paths, capabilities and sockets
+  --quiet-audit       With --all, counts answers that differ only in how they are logged as the same
+  --limit <N>         With --all, the most sets of states to look at for each WHO (default: 262144)
+  --verbose           First lists each file that is left out, and why
+  --json              Prints JSON records, one per line
   -h, --help          Prints help
 
-One FILE can be given, and none with --all. Where an option is given again, the last counts.
+Only one FILE can be given, and none with --all. If an option is repeated, the last one counts.
 
-All files below OLD and NEW are read, as check reads them; those at their tops that are refused are
-left out, and how many these are stands on standard error. Of each profile, child and hat that
-differs one of these is told:
-  gone: NAME     OLD has it alone
-  changed: NAME  Both have it. Below stand the lines of OLD alone, behind -, and of NEW, behind +,
+All files below OLD and NEW are read as by check. Files at their tops that are refused are left out,
+and their number is reported on standard error. For each profile, child and hat that differs one of
+these is printed:
+  gone: NAME     Only OLD has it
+  changed: NAME  Both have it. The lines only in OLD follow, after -, and those only in NEW, after +,
                  each with FILE:LINE:COLUMN: where it is written
-  new: NAME      NEW has it alone
-Ahead of these stands each file of NEW that is newly left out, as none of its name is of OLD:
+  new: NAME      Only NEW has it
+Before these comes each file of NEW that is newly left out, with none of its name left out of OLD:
   newly left out: FILE: NUMBER NAME: WORDS
-Of each question that FILE tells of and that they answer otherwise this is told, and below it the
-rules that OLD or NEW alone answers by:
-  QUESTION: ANSWER OF OLD -> ANSWER OF NEW (HOW OFTEN IT CAME)
-The last line counts the lines, requests and questions of FILE, and what is answered otherwise.
+For each question in FILE that they answer differently this is printed, followed by the rules that
+only OLD or only NEW answers by:
+  QUESTION: ANSWER OF OLD -> ANSWER OF NEW (HOW OFTEN IT OCCURS)
+The last line counts the lines, requests and questions of FILE, and the answers that differ.
 
-With --all no lines of profiles are compared, but what OLD and NEW answer to whatever can be asked:
-of each path, each capability, and each pair of a domain and a type of sockets, all as in enforce
-mode. Of each WHO of which something is answered otherwise one of these is told:
-  wider: NAME      Something is allowed now that wasn't, and nothing isn't any more
-  narrower: NAME   The other way round; and both: NAME where there is both
-  otherwise: NAME  Something is logged or denied otherwise, or the mode changes
-  gone: NAME       OLD has it alone; new: NAME, NEW has; absent: NAME, neither has
+With --all, not the lines of profiles are compared, but the answers of OLD and NEW to every request:
+for each path, each capability, and each pair of a socket domain and type, all as in enforce mode.
+For each WHO with an answer that differs one of these is printed:
+  wider: NAME      Something is newly allowed, and nothing is no longer allowed
+  narrower: NAME   The reverse; and both: NAME for both
+  otherwise: NAME  Something is logged or denied differently, or the mode changes
+  gone: NAME       Only OLD has it; new: NAME, only NEW has; absent: NAME, neither has
   too many: NAME   There are more sets of states than the limit
-Below stands what changes: the mode; each rule on files of OLD alone, behind -, and of NEW alone,
-behind +, with a shortest path on which it changes an answer, or that it changes nothing; each
-capability; and each pair of sockets. The last line counts them.
+What changes follows: the mode; each file rule only in OLD, after -, or only in NEW, after +, with a
+shortest path on which it changes an answer, or that it changes nothing; each capability; and each
+pair of a socket domain and type. The last line counts them.
 
 Exit status:
-  0  Nothing differs, or help was asked for; with --all, no path, capability or pair of sockets is
-     answered otherwise by any profile of both, and none is new or gone
-  1  Some profile differs, some question is answered otherwise, or a file is newly left out; with
-     --all, wherever the status is none of the others
-  2  The arguments are bad, or FILE, OLD or NEW, or what lies below these, can't be read
-  3  Writing failed, or memory ran out; with --all, also where there are too many sets for some
+  0  Nothing differs, or help was requested; with --all, no profile of both answers any path,
+     capability or socket differently, and none is new or gone
+  1  Some profile differs, some question is answered differently, or a file is newly left out; with
+     --all, whenever the status is none of the others
+  2  Bad arguments, or FILE, OLD or NEW, or something below these, can't be read
+  3  A write failed, or memory ran out; with --all, also if there are too many sets for some
      profile, which is named
 ";
 

@@ -31,49 +31,49 @@ const DENIED: &str = "--denied";
 
 // The help on `log`.
 const HELP: &str = "\
-Asks the policy of a folder what the lines of a log asked, and tells what it answers now
+Asks the policy what the lines of a log asked, and prints its answers now
 
 Usage: aatry log [OPTIONS] [FILE]..
 
 Arguments:
-  [FILE]..  A log, by its path, as audit.log, syslog or what journalctl writes, also with
-            -o json; - is standard input, which is read where no FILE is given
+  [FILE]..  The path of a log, such as audit.log, syslog or the output of journalctl, also with
+            -o json; - is standard input, which is the default
 
 Options:
-  -b <DIR>          The folder of policy, /etc/apparmor.d unless it is given
-  --denied          Passes over lines that tell of a request and not as DENIED
-  --profile <NAME>  Passes over lines that tell who asks, and that it is another than the
-                    profile of the full name NAME, its children and its hats
-  --since <WHEN>    Passes over lines that are stamped before WHEN: @SECONDS since 1970, or in
-                    UTC \"YYYY-MM-DD\", \"YYYY-MM-DD HH:MM\" or \"YYYY-MM-DD HH:MM:SS\"
-  --rules           Tells what to add, as rules that can be pasted, in place of the answers
-  --globs           With --rules: offers a wider rule beside one, as a comment, where its path
-                    has a home folder, the number of a process, another number, or a hash
-  --strict          Ends with 1 where a line can't be read, or asks for somebody who isn't there
-  --verbose         Tells each file first that is left out, and why
-  --json            Tells in records of JSON, one a line
+  -b <DIR>          The policy directory (default: /etc/apparmor.d)
+  --denied          Skips lines with a request that isn't logged as DENIED
+  --profile <NAME>  Skips lines in which the profile that asks is named, and is neither the one with
+                    the full name NAME nor one of its children and hats
+  --since <WHEN>    Skips lines stamped before WHEN: @SECONDS since 1970, or in UTC
+                    \"YYYY-MM-DD\", \"YYYY-MM-DD HH:MM\" or \"YYYY-MM-DD HH:MM:SS\"
+  --rules           Prints the rules to add, ready to paste, instead of the answers
+  --globs           With --rules, also offers a wider rule, as a comment, where the path has a home
+                    directory, the number of a process, another number, or a hash
+  --strict          Exits with 1 if a line can't be read, or if the profile that asks doesn't exist
+  --verbose         First lists each file that is left out, and why
+  --json            Prints JSON records, one per line
   -h, --help        Prints help
 
-Where an option is given again, the last counts.
+If an option is repeated, the last one counts.
 
-All files below DIR are read, as check reads them; those at its top that are refused are left out,
-and how many these are stands on standard error. Each request of the logs is told once, the one that
-came most often first: how often it came, when first and last in UTC, and the question that it asks;
-and below it the answer of DIR now with the rules behind it, as why tells them. Then come the first
-ten lines that can't be read, each behind its FILE and number. The last line counts the lines,
-requests and questions, those who ask and aren't there, requests that no question asks, lines that
-can't be read, and lines that are passed over.
+All files below DIR are read as by check. Files at its top that are refused are left out, and their
+number is reported on standard error. Each request of the logs is printed once, the most frequent
+first: how often it occurs, when first and last in UTC, and the question that it asks, followed by
+the answer of DIR now and the rules behind it, as by why. Then come the first ten lines that can't
+be read, each after its FILE and number. The last line counts the lines, requests and questions, the
+profiles that ask and don't exist, requests that no question asks, lines that can't be read, and
+lines that are passed over.
 
-With --rules it tells below each profile the rules with which its requests are allowed that lack
-something now, one a path. Ahead of them stand, as comments, up to five abstractions of DIR with
-which some would be allowed, and behind them each request that a rule denies, and each path whose
-rule can't be added or written. Look at what is told before it is pasted.
+With --rules, each profile is followed by the rules that would allow those of its requests that lack
+something now, one per path. Before them come, as comments, up to five abstractions of DIR that
+would allow some; after them, each request that a rule denies, and each path whose rule can't be
+added or written. Review the rules before you paste them.
 
 Exit status:
-  0  The logs were read, or help was asked for
-  1  With --strict: a line couldn't be read, or asks for somebody who isn't there
-  2  The arguments are bad, or a FILE, DIR, or a file or folder below it, can't be read
-  3  Reading or writing failed, or memory ran out
+  0  The logs were read, or help was requested
+  1  With --strict: a line couldn't be read, or the profile that asks doesn't exist
+  2  Bad arguments, or a FILE, DIR, or a file or directory below it, can't be read
+  3  A read or write failed, or memory ran out
 ";
 
 // The options that take a value: a profile's name, and a time.

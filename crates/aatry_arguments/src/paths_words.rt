@@ -30,81 +30,81 @@ const USUAL_LIMIT: usize = 262_144;
 
 // The help on `never`.
 const NEVER_HELP: &str = "\
-Tells whether nothing of some access is let to any file of a pattern, or a path that says otherwise;
-and after exec, whether no program ever runs unconfined that somebody starts, or that such a
-program starts in turn, or a chain of starts that ends so
+Checks that no file of a pattern is ever allowed some access, or prints a path that is; and after
+exec, that no program started by WHO, directly or in turn, ever runs unconfined, or prints a chain
+of starts that ends so
 
 Usage: aatry never [OPTIONS] ACCESS OWNED PATTERN [WHO]..
        aatry never [OPTIONS] exec WHO..
 
 Arguments:
-  ACCESS   One or more of the letters r w a l k m x, none twice
-  OWNED    owner where the task owns the file, other where it doesn't, any for both
-  PATTERN  A pattern as a rule has it, as '/etc/**', with the variables of tunables/global
-  [WHO]..  Profiles, children or hats, by their full names; all, where none is given, of an ACCESS
+  ACCESS   One or more of the letters r w a l k m x, none repeated
+  OWNED    owner if the task owns the file, other if it doesn't, any for both
+  PATTERN  A pattern as in a rule, such as '/etc/**', with the variables of tunables/global
+  [WHO]..  Full names of profiles, children or hats (default with an ACCESS: all)
 
 Options:
-  -b <DIR>     The folder of policy, /etc/apparmor.d unless it is given
-  --names      Tells no rules, but one line for each WHO
-  --limit <N>  How many sets of states are looked at, at most, for each WHO; 262144 if none is given
-  --verbose    Tells each file first that is left out, and why
-  --json       Tells in records of JSON, one a line
+  -b <DIR>     The policy directory (default: /etc/apparmor.d)
+  --names      Prints no rules, only one line for each WHO
+  --limit <N>  The most sets of states to look at for each WHO (default: 262144)
+  --verbose    First lists each file that is left out, and why
+  --json       Prints JSON records, one per line
   -h, --help   Prints help
 
-All files below DIR are read, as check reads them; those at its top that are refused are left out,
-and how many these are stands on standard error. All paths that PATTERN matches are asked about but
-those that the kernel never asks about, with // in them or a part . or .. ; a folder's path ends
-with /. The rules are asked as in enforce mode; where none is asked, all is let. For each WHO a
-line is told:
-  never   None of the letters is let, of no path. So many kinds of paths stand for all. Of exec, no
-          chain of starts ends unconfined, however long. So many places are reached
-  no      This path says otherwise, and no shorter one does. Below stand the rules that let it. Of
-          exec, a chain of starts ends unconfined. Below stands each start of it
+All files below DIR are read as by check. Files at its top that are refused are left out, and their
+number is reported on standard error. All paths that PATTERN matches are considered, except those
+that the kernel never asks about, with // or a component . or .. in them; a directory's path ends
+with /. The rules are asked as in enforce mode; where none is asked, everything is allowed. For each
+WHO a line is printed:
+  never   None of the letters is allowed for any path. The kinds of paths are counted. After exec:
+          no chain of starts, however long, ends unconfined. The places reached are counted
+  no      This path is a counterexample, and none is shorter. The rules that allow it follow.
+          After exec: a chain of starts ends unconfined. Each start of it follows
   many    There are too many different paths for the limit, so nothing is known
-  absent  Nobody has the name
+  absent  No profile, child or hat has the name
 
 Exit status:
-  0  Each line begins with never, or help was asked for
+  0  Each line begins with never, or help was requested
   1  A line begins with no or absent
-  2  The arguments or PATTERN are bad, or DIR, or a file or folder below it, can't be read
-  3  No line begins so, but one with many; or writing failed, or memory ran out
+  2  Bad arguments or PATTERN, or DIR, or a file or directory below it, can't be read
+  3  A line begins with many, and none with no or absent; or a write failed, or memory ran out
 ";
 
 // The help on `always`.
 const ALWAYS_HELP: &str = "\
-Tells whether all of some access is let to each file of a pattern, or a path that says otherwise
+Checks that each file of a pattern is always allowed some access, or prints a path that isn't
 
 Usage: aatry always [OPTIONS] ACCESS OWNED PATTERN [WHO]..
 
 Arguments:
-  ACCESS   One or more of the letters r w a l k m x, none twice
-  OWNED    owner where the task owns the file, other where it doesn't, any for both
-  PATTERN  A pattern as a rule has it, as '/srv/www/**', with the variables of tunables/global
-  [WHO]..  Profiles, children or hats, by their full names; all, where none is given
+  ACCESS   One or more of the letters r w a l k m x, none repeated
+  OWNED    owner if the task owns the file, other if it doesn't, any for both
+  PATTERN  A pattern as in a rule, such as '/srv/www/**', with the variables of tunables/global
+  [WHO]..  Full names of profiles, children or hats (default: all)
 
 Options:
-  -b <DIR>     The folder of policy, /etc/apparmor.d unless it is given
-  --names      Tells no rules, but one line for each WHO
-  --limit <N>  How many sets of states are looked at, at most, for each WHO; 262144 if none is given
-  --verbose    Tells each file first that is left out, and why
-  --json       Tells in records of JSON, one a line
+  -b <DIR>     The policy directory (default: /etc/apparmor.d)
+  --names      Prints no rules, only one line for each WHO
+  --limit <N>  The most sets of states to look at for each WHO (default: 262144)
+  --verbose    First lists each file that is left out, and why
+  --json       Prints JSON records, one per line
   -h, --help   Prints help
 
-All files below DIR are read, as check reads them; those at its top that are refused are left out,
-and how many these are stands on standard error. All paths that PATTERN matches are asked about but
-those that the kernel never asks about, with // in them or a part . or .. ; a folder's path ends
-with /. The rules are asked as in enforce mode; where none is asked, all is let. For each WHO a
-line is told:
-  always  All of the letters are let, of each path. So many kinds of paths stand for all
-  no      This path says otherwise, and no shorter one does. Below stand the rules behind that
+All files below DIR are read as by check. Files at its top that are refused are left out, and their
+number is reported on standard error. All paths that PATTERN matches are considered, except those
+that the kernel never asks about, with // or a component . or .. in them; a directory's path ends
+with /. The rules are asked as in enforce mode; where none is asked, everything is allowed. For each
+WHO a line is printed:
+  always  All of the letters are allowed for each path. The kinds of paths are counted
+  no      This path is a counterexample, and none is shorter. The rules behind that follow
   many    There are too many different paths for the limit, so nothing is known
-  absent  Nobody has the name
+  absent  No profile, child or hat has the name
 
 Exit status:
-  0  Each line begins with always, or help was asked for
+  0  Each line begins with always, or help was requested
   1  A line begins with no or absent
-  2  The arguments or PATTERN are bad, or DIR, or a file or folder below it, can't be read
-  3  No line begins so, but one with many; or writing failed, or memory ran out
+  2  Bad arguments or PATTERN, or DIR, or a file or directory below it, can't be read
+  3  A line begins with many, and none with no or absent; or a write failed, or memory ran out
 ";
 
 // The limit that words name, and the other words.

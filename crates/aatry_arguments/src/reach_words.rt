@@ -19,32 +19,32 @@ const DOT: &str = "--dot";
 
 // The help on `reach`.
 const HELP: &str = "\
-Tells under which profiles programs may run that WHO starts, and those that these start
+Lists the profiles that programs started by WHO, directly or in turn, may run under
 
 Usage: aatry reach [OPTIONS] WHO..
 
 Arguments:
-  WHO..  Profiles, children or hats, by their full names, or unconfined
+  WHO..  Full names of profiles, children or hats, or unconfined
 
 Options:
-  -b <DIR>     The folder of policy, /etc/apparmor.d unless it is given
-  --dot        Tells a graph in the language of graphviz
-  --limit <N>  How many sets of states are looked at, at most, for each who starts programs;
-               262144 if none is given
-  --verbose    Tells each file first that is left out, and why
-  --json       Tells in records of JSON, one a line
+  -b <DIR>     The policy directory (default: /etc/apparmor.d)
+  --dot        Prints a graph in the Graphviz language
+  --limit <N>  The most sets of states to look at for each profile, child or hat that starts
+               programs (default: 262144)
+  --verbose    First lists each file that is left out, and why
+  --json       Prints JSON records, one per line
   -h, --help   Prints help
 
-All files below DIR are read, as check reads them; those at its top that are refused are left out,
-and how many these are stands on standard error. All paths are asked about but those that the
-kernel never asks about, with // in them or a part . or .. ; each place that a start leads to is
-told once, with who starts it and a shortest path.
+All files below DIR are read as by check. Files at its top that are refused are left out, and their
+number is reported on standard error. All paths are considered, except those that the kernel never
+asks about, with // or a component . or .. in them. Each place that a start leads to is printed
+once, with what starts it and a shortest path.
 
 Exit status:
-  0  All that can be reached is told, or help was asked for
-  1  Nobody has a name
-  2  The arguments are bad, or DIR, or a file or folder below it, can't be read
-  3  There are too many different paths for the limit; or writing failed, or memory ran out
+  0  All that can be reached was printed, or help was requested
+  1  No profile, child or hat has one of the names
+  2  Bad arguments, or DIR, or a file or directory below it, can't be read
+  3  There are too many different paths for the limit; or a write failed, or memory ran out
 ";
 
 // The question of words without those that only `reach` has.

@@ -19,29 +19,29 @@ use std::alloc::Global;
 
 // The help on the program.
 const HELP: &str = "\
-Helps with AppArmor policy at a terminal
+Checks, queries, tests and compares AppArmor policy at a terminal
 
 Usage: aatry COMMAND [ARGUMENT]..
 
 Commands:
-  check    Tells of each file of a folder of policy whether it is taken, or what is wrong with it;
-           with --rules, which rules decide nothing
-  why      Tells the answer to a question, and the rules behind it
-  log      Asks what the lines of a log asked, and tells what is answered now
-  who      Tells which profiles, children and hats would let through what a question asks for
-  never    Tells whether some access is let to no file of a pattern, or a path that says otherwise
-  always   Tells whether it is let to each file of a pattern, or a path that says otherwise
-  reach    Tells under which profiles programs may run that somebody starts, and those that these start
-  diff     Tells which profiles of two folders of policy differ, and what they answer otherwise
-  session  Takes commands over a folder of policy, as they come: changes, questions, undo
-  test     Runs transcripts of commands over a folder of policy, and tells each reply that differs
+  check    Checks each file of a policy directory, and reports what is wrong with it; with --rules,
+           reports the rules that decide nothing
+  why      Explains the answer to a question with the rules behind it
+  log      Asks the policy what the lines of a log asked, and prints its answers now
+  who      Lists the profiles, children and hats that would allow a request
+  never    Checks that no file of a pattern is ever allowed some access, or prints a path that is
+  always   Checks that each file of a pattern is always allowed it, or prints a path that isn't
+  reach    Lists the profiles that programs started by WHO, directly or in turn, may run under
+  diff     Compares two policy directories: which profiles differ, and what they answer differently
+  session  Runs commands over a policy directory as they come: changes, questions, undo
+  test     Runs transcripts of commands over a policy directory, and reports replies that differ
 
 Options:
-  --json          Tells in records of JSON, one a line; not behind session and test
-  --verbose       Tells each file first that is left out, and why; not behind check, session and test
-  --language <N>  Reads policy by language N, 3 or 4; 4 if none is named
-  --color <WHEN>  Shows lines in colours: auto, always or never; auto if nothing is said
-  -h, --help      Prints help, and behind a COMMAND help on it
+  --json          Prints JSON records, one per line; not with session and test
+  --verbose       First lists each file that is left out, and why; not with check, session and test
+  --language <N>  Reads policy in language N, 3 or 4 (default: 4)
+  --color <WHEN>  Colours the lines: auto, always or never (default: auto)
+  -h, --help      Prints help; after a COMMAND, help on that command
   -V, --version   Prints the version
 ";
 

@@ -12,30 +12,30 @@ use std::alloc::Global;
 
 // The help on `session`.
 const HELP: &str = "\
-Takes commands over a folder of policy, as they come: changes, questions, undo
+Runs commands over a policy directory as they come: changes, questions, undo
 
 Usage: aatry session [OPTIONS]
 
 Options:
-  -b <DIR>    The folder of policy, /etc/apparmor.d unless it is given
+  -b <DIR>    The policy directory (default: /etc/apparmor.d)
   -h, --help  Prints help
 
-All files below DIR are read, as check reads them, and those at its top are added, each in its
-turn; those that are refused are told, and left out. Then each line of standard input is a command,
-as aaset takes it, or one of these:
-  help       Tells the commands
-  history    Tells the changes since the loading that can be undone and redone
-  loading    Has the changes of the loading in the history, too
-  why WORD.. Tells the answer to a question, and the rules behind it
-  status     Tells what is loaded, and which files differ from those on disk
+All files below DIR are read as by check, and those at its top are added one by one. Files that are
+refused are reported, and left out. Then each line of standard input is a command of aaset, or one
+of these:
+  help       Lists the commands
+  history    Lists the changes since the loading that can be undone and redone
+  loading    Adds the changes of the loading to the history
+  why WORD.. Explains the answer to a question with the rules behind it
+  status     Shows what is loaded, and which files differ from those on disk
   reload     Reads the files below DIR again; what is loaded stays
   quit       Ends the session, as the end of the input does
-No file is written, and no kernel is asked: what is changed ends with the session.
+No file is written, and the kernel isn't asked: all changes end with the session.
 
 Exit status:
-  0  The session ended, or help was asked for
-  2  The arguments are bad, or DIR, or a file or folder below it, can't be read
-  3  Reading or writing failed, or memory ran out
+  0  The session ended, or help was requested
+  2  Bad arguments, or DIR, or a file or directory below it, can't be read
+  3  A read or write failed, or memory ran out
 ";
 
 // The session of words that were read as a check.

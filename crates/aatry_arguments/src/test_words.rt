@@ -18,42 +18,42 @@ const ACCEPT: &str = "--accept";
 
 // The help on `test`.
 const HELP: &str = "\
-Runs transcripts of commands over a folder of policy, and tells each reply that differs
+Runs transcripts of commands over a policy directory, and reports replies that differ
 
 Usage: aatry test [OPTIONS] FILE..
 
 Arguments:
-  FILE..  A transcript, by its own path
+  FILE..  The path of a transcript
 
 Options:
-  -b <DIR>    The folder of policy, /etc/apparmor.d unless it is given
-  --accept    Writes what is told into each FILE that doesn't pass, in place of what it wants
+  -b <DIR>    The policy directory (default: /etc/apparmor.d)
+  --accept    Updates each FILE that doesn't pass with the actual replies
   -h, --help  Prints help
 
-All files below DIR are read, as check reads them. Each FILE has its own run, which begins with
-no profile loaded. In a FILE
-  > COMMAND   is a command, as aaset takes it
-  # COMMENT   is left out, and so are lines of blanks
-and each other line is wanted as part of the reply to the command above it. One that ends in ' ..'
-stands for the line without that end and the audit line behind it, whatever that is.
+All files below DIR are read as by check. Each FILE is run on its own, beginning with no profile
+loaded. In a FILE
+  > COMMAND   is a command of aaset
+  # COMMENT   is ignored, and so are blank lines
+and each other line is expected as part of the reply to the command above it. One that ends in ' ..'
+stands for the line without that end followed by any audit line.
 
-Of each FILE whose replies are the wanted ones this is told:
+A FILE whose replies are all as expected is reported as
   FILE: passed: commands N
-Of any other each command is told whose reply differs, with the lines that are missing and
-those that aren't wanted, and at the end how many differ:
+For any other FILE, each command whose reply differs is printed, with the lines that are missing and
+those that aren't expected, and at the end how many differ:
   FILE:LINE: > COMMAND
-  - LINE THAT IS WANTED AND NOT TOLD
-  + LINE THAT IS TOLD AND NOT WANTED
+  - LINE THAT IS EXPECTED AND MISSING
+  + LINE THAT ISN'T EXPECTED
   FILE: failed: commands N, differing M
 With --accept that end is 'FILE: accepted: ..'. The commands and comments of FILE stay as they are,
-and so do the replies that don't differ. The new text is written to FILE.new first, which may not be
-there, and takes the place of FILE when it is whole.
+and so do the replies that don't differ. The new text is first written to FILE.new, which must not
+exist, and replaces FILE when it is complete.
 
 Exit status:
-  0  Each FILE passed or was accepted, or help was asked for
+  0  Each FILE passed or was accepted, or help was requested
   1  Some FILE failed
-  2  The arguments are bad, or DIR, a file or folder below it, or a FILE can't be read
-  3  Writing failed, also that of a FILE, or memory ran out
+  2  Bad arguments, or DIR, a file or directory below it, or a FILE can't be read
+  3  A write failed, also that of a FILE, or memory ran out
 ";
 
 // The test of words that were read as a check.

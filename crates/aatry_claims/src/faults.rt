@@ -7,27 +7,27 @@ use std::alloc::{AllocError, Global};
 // Appends that an access is none.
 fn push_bad_access(access: &str, out: &mut Vec<u8>) -> Result<(), AllocError> {
     out.extend_from_slice(
-        b"ACCESS is one or more of the letters r w a l k m x, none twice, and not ",
+        b"ACCESS must be one or more of the letters r w a l k m x, none twice, not ",
     )?;
     push_shown(out, access.as_bytes())
 }
 
 // Appends that a word says nothing of owners.
 fn push_bad_owner(owned: &str, out: &mut Vec<u8>) -> Result<(), AllocError> {
-    out.extend_from_slice(b"OWNED is owner, other or any, and not ")?;
+    out.extend_from_slice(b"OWNED must be owner, other or any, not ")?;
     push_shown(out, owned.as_bytes())
 }
 
 // Appends that a pattern is none.
 fn push_bad_pattern(pattern: &str, out: &mut Vec<u8>) -> Result<(), AllocError> {
-    out.extend_from_slice(b"PATTERN is none that a rule can have: ")?;
+    out.extend_from_slice(b"PATTERN is not valid in a rule: ")?;
     push_shown(out, pattern.as_bytes())
 }
 
 // Appends the first thing that is wrong with words.
 fn push_fault(words: &[String], out: &mut Vec<u8>) -> Result<(), AllocError> {
     let [access, owned, pattern, ..] = words else {
-        return out.extend_from_slice(b"behind never and always come ACCESS, OWNED and PATTERN");
+        return out.extend_from_slice(b"never and always require ACCESS, OWNED and PATTERN");
     };
     if letters_of(access.as_bytes()).is_none() {
         return push_bad_access(access.as_str(), out);

@@ -23,7 +23,7 @@ is_cut_line (word ∷ other ∷ words) = list_any is_pair (word ∷ other ∷ wo
 
 -- the hint for such words
 abbrev pub cut_line_told : List ℕ
-cut_line_told = codes "aatry: a line of a log is one word, in quotes: aatry why 'LINE'; or pipe it into aatry log\n"
+cut_line_told = codes "aatry: quote a log line as one word: aatry why 'LINE'; or pipe it into aatry log\n"
 
 -- the hint for words, if they are such words
 abbrev pub cut_line : List (List ℕ) → Option (List ℕ)
@@ -41,7 +41,7 @@ command_meant word = other_than word (nearest word commands)
 -- the hint for a word in place of a command, if it may stand for one
 abbrev pub no_command_told : List ℕ → Option (List ℕ) → Option (List ℕ)
 no_command_told word None = None
-no_command_told word (Some near) = Some (codes "aatry: no command is called " ++ shown word ++ codes ": did you mean " ++ shown near ++ codes "?\n")
+no_command_told word (Some near) = Some (codes "aatry: unknown command " ++ shown word ++ codes ": did you mean " ++ shown near ++ codes "?\n")
 
 -- the hint for a word that is no command, where one is near
 abbrev pub misspelled_by : Option (List ℕ) → Option (List ℕ)
@@ -50,8 +50,8 @@ misspelled_by (Some word) = no_command_told word (command_meant word)
 
 -- the hint for a name that no option has, with the option that may have been meant
 abbrev pub no_option_told : List ℕ → Option (List ℕ) → List ℕ
-no_option_told name None = codes "aatry: there is no option " ++ shown name ++ codes "\n"
-no_option_told name (Some near) = codes "aatry: there is no option " ++ shown name ++ codes ": did you mean " ++ shown near ++ codes "?\n"
+no_option_told name None = codes "aatry: unknown option " ++ shown name ++ codes "\n"
+no_option_told name (Some near) = codes "aatry: unknown option " ++ shown name ++ codes ": did you mean " ++ shown near ++ codes "?\n"
 
 abbrev pub unknown_told : Option (List ℕ) → Option (List ℕ)
 unknown_told None = None
@@ -65,7 +65,7 @@ not_taken_told None name = None
 
 -- the hint for an option whose value is missing
 abbrev pub wanted_told : List ℕ → List ℕ
-wanted_told name = codes "aatry: a value is wanted behind " ++ shown name ++ codes "\n"
+wanted_told name = codes "aatry: a value is required after " ++ shown name ++ codes "\n"
 
 -- the hint for an option with a value that it doesn't take, if there is one: an empty value counts as missing
 abbrev pub refused_told : List ℕ → List ℕ → List ℕ

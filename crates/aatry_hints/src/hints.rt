@@ -12,7 +12,7 @@ use std::alloc::{AllocError, Global};
 
 // The hint for words into which a shell cut the line of a log.
 const CUT_LINE: &[u8] =
-    b"aatry: a line of a log is one word, in quotes: aatry why 'LINE'; or pipe it into aatry log\n";
+    b"aatry: quote a log line as one word: aatry why 'LINE'; or pipe it into aatry log\n";
 
 // Whether one of some words begins with `apparmor=`, as each audit line has it.
 fn has_pair(words: &[String]) -> bool
@@ -72,7 +72,7 @@ fn no_command_told(
     let Some(near) = near else {
         return Ok(None);
     };
-    let mut line = Vec::from_slice(alloc, b"aatry: no command is called ")?;
+    let mut line = Vec::from_slice(alloc, b"aatry: unknown command ")?;
     push_shown(&mut line, word)?;
     line.extend_from_slice(b": did you mean ")?;
     push_shown(&mut line, near)?;

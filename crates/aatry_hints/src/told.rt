@@ -22,7 +22,7 @@ use std::alloc::{AllocError, Global};
 fn no_option_told(alloc: Global, name: &[u8], near: Option<&[u8]>) -> Result<Vec<u8>, AllocError>
     ensures { IfOk result (λ line. line.items ≡ no_option_told name.now (option_map (λ name. name.now) near.entry)) }
 {
-    let mut line = Vec::from_slice(alloc, b"aatry: there is no option ")?;
+    let mut line = Vec::from_slice(alloc, b"aatry: unknown option ")?;
     push_shown(&mut line, name)?;
     let Some(near) = near else {
         line.push(b'\n')?;
@@ -82,7 +82,7 @@ fn not_taken_told(
 fn wanted_told(alloc: Global, name: &[u8]) -> Result<Vec<u8>, AllocError>
     ensures { IfOk result (λ line. line.items ≡ wanted_told name.now) }
 {
-    let mut line = Vec::from_slice(alloc, b"aatry: a value is wanted behind ")?;
+    let mut line = Vec::from_slice(alloc, b"aatry: a value is required after ")?;
     push_shown(&mut line, name)?;
     line.push(b'\n')?;
     Ok(line)

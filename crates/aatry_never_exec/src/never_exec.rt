@@ -183,9 +183,9 @@ pub fn claim_folder<F: Folders, D: FileSystem>(
 // What is wrong with words of which the first is `exec`, and which ask nothing.
 fn exec_fault(always: bool) -> &'static [u8] {
     if always {
-        b"aatry: exec stands behind never alone, and not behind always\n"
+        b"aatry: exec goes with never only, not with always\n"
     } else {
-        b"aatry: behind never exec comes WHO\n"
+        b"aatry: never exec requires a WHO\n"
     }
 }
 

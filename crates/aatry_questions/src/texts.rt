@@ -8,32 +8,30 @@ use std::alloc::AllocError;
 // How many words a question of a kind has, and which.
 fn words_of(kind: QuestionKind) -> &'static str {
     match kind {
-        QuestionKind::Cap => "a question for a capability has three words: cap WHO NAME",
-        QuestionKind::Net => "a question for sockets has four words: net WHO DOMAIN TYPE",
-        QuestionKind::Exec =>
-            "a question about a program's start has four words: exec WHO OWNED PATH",
-        QuestionKind::File => "a question for a file has five words: file WHO ACCESS OWNED PATH",
+        QuestionKind::Cap => "a capability question has three words: cap WHO NAME",
+        QuestionKind::Net => "a socket question has four words: net WHO DOMAIN TYPE",
+        QuestionKind::Exec => "an exec question has four words: exec WHO OWNED PATH",
+        QuestionKind::File => "a file question has five words: file WHO ACCESS OWNED PATH",
     }
 }
 
 // What is wrong, in words, which the faulty word follows.
 fn words_for(wrong: Wrong) -> &'static str {
     match wrong {
-        Wrong::Kind => "no kind of questions is called ",
+        Wrong::Kind => "unknown kind of question ",
         Wrong::Count(kind) => words_of(kind),
-        Wrong::NoLetter => "ACCESS has one or more of the letters r w a l k m",
-        Wrong::Letter => "ACCESS has none but the letters r w a l k m, and not ",
-        Wrong::LetterTwice => "ACCESS has each letter once, and not again ",
-        Wrong::Owned => "OWNED is owner or other, and not ",
-        Wrong::Path => "PATH begins with a slash, unlike ",
-        Wrong::Capability => "no capability is called ",
-        Wrong::Domain => "no domain of sockets is called ",
-        Wrong::SocketType => "no type of sockets is called ",
-        Wrong::UnreadableLine => "the line can't be read as one of a log",
-        Wrong::OtherLine =>
-            "the line tells of a request of another kind, which no rule here decides",
+        Wrong::NoLetter => "ACCESS must be one or more of the letters r w a l k m",
+        Wrong::Letter => "ACCESS may only have the letters r w a l k m, not ",
+        Wrong::LetterTwice => "ACCESS repeats the letter ",
+        Wrong::Owned => "OWNED must be owner or other, not ",
+        Wrong::Path => "PATH must begin with a slash: ",
+        Wrong::Capability => "unknown capability ",
+        Wrong::Domain => "unknown socket domain ",
+        Wrong::SocketType => "unknown socket type ",
+        Wrong::UnreadableLine => "the line can't be read as a log line",
+        Wrong::OtherLine => "the line logs a kind of request that no rule here decides",
         Wrong::LineWithoutRequest => {
-            "one word alone is a line of a log, and this one tells of no request"
+            "a single word is read as a log line, and this one logs no request"
         }
     }
 }
@@ -64,12 +62,11 @@ fn push_near(near: &[u8], out: &mut Vec<u8>) -> Result<(), AllocError> {
 // How many words a question of a kind has without the asker, and which.
 fn letting_words_of(kind: QuestionKind) -> &'static str {
     match kind {
-        QuestionKind::Cap => "behind who, a question for a capability has two words: cap NAME",
-        QuestionKind::Net => "behind who, a question for sockets has three words: net DOMAIN TYPE",
-        QuestionKind::Exec =>
-            "behind who, a question about a program's start has three words: exec OWNED PATH",
+        QuestionKind::Cap => "after who, a capability question has two words: cap NAME",
+        QuestionKind::Net => "after who, a socket question has three words: net DOMAIN TYPE",
+        QuestionKind::Exec => "after who, an exec question has three words: exec OWNED PATH",
         QuestionKind::File =>
-            "behind who, a question for a file has three words: ACCESS OWNED PATH, or file ahead of them",
+            "after who, a file question has three words: ACCESS OWNED PATH, or file before them",
     }
 }
 

@@ -24,7 +24,7 @@ named words text = words ++ codes " `" ++ shown text ++ codes "`"
 abbrev pub flag_words : Language → List ℕ → List ℕ
 flag_words language text = elim (unknown_flag language text) [
   | Some flag ↦ named (codes "there is no flag") flag
-  | None ↦ codes "two modes stand beside each other"
+  | None ↦ codes "two mode flags conflict"
 ]
 
 -- what is wrong with a name that can't be one
@@ -42,7 +42,7 @@ name_words_at files place = option_map name_words (text_at (bytes_at files place
 -- read
 abbrev pub include_words : List ℕ → Option (List ℕ)
 include_words name =
-    if begins_with_byte slash name then Some (codes "nothing below the folder has this name, and nothing outside of it is read") else None
+    if begins_with_byte slash name then Some (codes "nothing below the directory has this name, and nothing outside of it is read") else None
 
 -- what is wrong with the include of the name at a place, if a token begins there
 abbrev pub include_words_by : Option (List ℕ) → Option (List ℕ)

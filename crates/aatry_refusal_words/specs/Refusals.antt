@@ -12,14 +12,14 @@ use Rattle.aatry_report.specs.Words.{words_of}
 -- what is wrong by the kind of a refusal alone
 abbrev pub kind_words : RefusalKind → List ℕ
 kind_words (kind.File refusal) = words_of refusal
-kind_words kind.Exists = codes "a profile of one of the file's names is there"
-kind_words kind.Absent = codes "no profile, child or hat of this name is there"
+kind_words kind.Exists = codes "a profile named in the file is already loaded"
+kind_words kind.Absent = codes "no profile, child or hat has this name"
 kind_words kind.Disabled = codes "the profile is disabled"
-kind_words kind.NothingToUndo = codes "fewer changes can be undone; say `loading` to undo those of the loading, too"
-kind_words kind.NothingToRedo = codes "fewer changes can be redone"
-kind_words kind.BadCommand = codes "this is no command: `help` tells which there are"
+kind_words kind.NothingToUndo = codes "too few changes to undo; say `loading` to undo those of the loading, too"
+kind_words kind.NothingToRedo = codes "too few changes to redo"
+kind_words kind.BadCommand = codes "not a command: `help` lists the commands"
 kind_words kind.LineTooLong = codes "the line has more than 65,536 bytes"
-kind_words kind.BadRequest = codes "no question can have these words, or no mark this name"
+kind_words kind.BadRequest = codes "invalid words for a question, or an invalid name for a mark"
 kind_words kind.NoMark = codes "no mark has this name"
 kind_words kind.Memory = codes "memory ran out"
 

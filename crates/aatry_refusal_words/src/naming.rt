@@ -30,7 +30,7 @@ fn flag_words(alloc: Global, language: Language, text: &[u8]) -> Result<Vec<u8>,
 {
     match unknown_flag(alloc, language, text)? {
         Some(flag) => named(alloc, "there is no flag", flag),
-        None => Vec::from_slice(alloc, b"two modes stand beside each other"),
+        None => Vec::from_slice(alloc, b"two mode flags conflict"),
     }
 }
 
@@ -73,7 +73,7 @@ fn include_words(alloc: Global, name: &[u8]) -> Result<Option<Vec<u8>>, AllocErr
     if !begins_with_byte(b'/', name) {
         return Ok(None);
     }
-    let words = b"nothing below the folder has this name, and nothing outside of it is read";
+    let words = b"nothing below the directory has this name, and nothing outside of it is read";
     Ok(Some(Vec::from_slice(alloc, words)?))
 }
 

@@ -15,15 +15,15 @@ pub fn kind_words(kind: RefusalKind) -> &'static str
 {
     match kind {
         RefusalKind::File(refusal) => aatry_report::words_of(refusal),
-        RefusalKind::Exists => "a profile of one of the file's names is there",
-        RefusalKind::Absent => "no profile, child or hat of this name is there",
+        RefusalKind::Exists => "a profile named in the file is already loaded",
+        RefusalKind::Absent => "no profile, child or hat has this name",
         RefusalKind::Disabled => "the profile is disabled",
         RefusalKind::NothingToUndo =>
-            "fewer changes can be undone; say `loading` to undo those of the loading, too",
-        RefusalKind::NothingToRedo => "fewer changes can be redone",
-        RefusalKind::BadCommand => "this is no command: `help` tells which there are",
+            "too few changes to undo; say `loading` to undo those of the loading, too",
+        RefusalKind::NothingToRedo => "too few changes to redo",
+        RefusalKind::BadCommand => "not a command: `help` lists the commands",
         RefusalKind::LineTooLong => "the line has more than 65,536 bytes",
-        RefusalKind::BadRequest => "no question can have these words, or no mark this name",
+        RefusalKind::BadRequest => "invalid words for a question, or an invalid name for a mark",
         RefusalKind::NoMark => "no mark has this name",
         RefusalKind::Memory => "memory ran out",
     }

@@ -10,21 +10,20 @@ fn words_of_grammar(refusal: GrammarRefusal) -> &'static str
     ensures { result.now ≡ words_of_grammar refusal }
 {
     match refusal {
-        GrammarRefusal::BadToken => "nothing that may stand here begins so",
+        GrammarRefusal::BadToken => "unexpected token or end of file",
         GrammarRefusal::OpenBlock => "this brace isn't closed",
-        GrammarRefusal::BadFlag => "there is no such flag, or two modes stand beside each other",
-        GrammarRefusal::BadAccess => "the access holds what is no access letter and no exec word",
-        GrammarRefusal::WriteAppend => "the access holds both `w` and `a`",
+        GrammarRefusal::BadFlag => "there is no such flag, or two mode flags conflict",
+        GrammarRefusal::BadAccess => "the access has an invalid letter or exec word",
+        GrammarRefusal::WriteAppend => "the access has both `w` and `a`",
         GrammarRefusal::TwoExec => "the access has two different exec words",
-        GrammarRefusal::ExecQualifier =>
-            "an exec word stands in a deny rule, or a bare `x` in another",
+        GrammarRefusal::ExecQualifier => "a deny rule has an exec word, or another rule a bare `x`",
         GrammarRefusal::TargetWithoutExec => "this rule can have no target",
         GrammarRefusal::BadCapability => "there is no such capability",
         GrammarRefusal::BadNetwork =>
-            "there is no such domain, type or protocol, or it can't stand here",
-        GrammarRefusal::TwiceNamed => "this name is there already",
-        GrammarRefusal::NestedChild => "a child or hat stands in another",
-        GrammarRefusal::LateAssignment => "a variable is assigned behind the first profile",
+            "there is no such domain, type or protocol, or it isn't allowed here",
+        GrammarRefusal::TwiceNamed => "this name is already used",
+        GrammarRefusal::NestedChild => "a child or hat is nested in another",
+        GrammarRefusal::LateAssignment => "a variable is assigned after the first profile",
         GrammarRefusal::NoProfile => "the file has no profile",
         GrammarRefusal::BadName => "no profile, child, hat or target can have this name",
         GrammarRefusal::LeftOut => "AppArmor has this; here it isn't read",
@@ -47,7 +46,7 @@ pub fn words_of(refusal: ProfileRefusal) -> &'static str
             "the patterns of its exec rules have more than 8,192 different beginnings"
         }
         ProfileRefusal::ExecConflict => {
-            "this rule and one before it lead a program of one path to different places"
+            "this rule and an earlier one disagree on where a program runs"
         }
         ProfileRefusal::Memory => "memory ran out",
     }

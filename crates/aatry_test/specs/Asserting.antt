@@ -33,10 +33,10 @@ pub record IsAskedOf (parts : List Part) (claimed : Claimed) (patterns : List (L
 
 -- the lines on an assertion that claims nothing, and on one whose pattern no rule can have
 abbrev pub nothing_line : List ℕ
-nothing_line = codes "+ nothing is asserted: behind ! come never or always, ACCESS, OWNED, PATTERN, and up to three WHO\n"
+nothing_line = codes "+ invalid assertion: after ! come never or always, ACCESS, OWNED, PATTERN, and up to three WHO\n"
 
 abbrev pub no_pattern_line : List ℕ
-no_pattern_line = codes "+ nothing is asserted: PATTERN is none that a rule can have\n"
+no_pattern_line = codes "+ invalid assertion: PATTERN is not valid in a rule\n"
 
 -- an assertion that can't be asked doesn't hold
 abbrev pub IsUnasked : List ℕ → Bool → List ℕ → Type 0

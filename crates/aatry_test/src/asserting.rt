@@ -100,7 +100,7 @@ fn push_claimed(
         × IsClaimAsked set.now (seen_claimed claimed.entry) (asked_patterns language files.now (seen_claimed claimed.entry).words.pattern) holds told) }
 {
     let Some(patterns) = asked_patterns(alloc, language, files, claimed.words.pattern)? else {
-        out.extend_from_slice(b"+ nothing is asserted: PATTERN is none that a rule can have\n")?;
+        out.extend_from_slice(b"+ invalid assertion: PATTERN is not valid in a rule\n")?;
         return Ok(false);
     };
     let parts = parts_of(alloc, set, &[])?;
@@ -112,7 +112,7 @@ fn push_nothing(out: &mut Vec<u8>) -> Result<(), AllocError>
     ensures { OnOk result (out.new.items ≡ out.old.items ++ nothing_line) }
 {
     out.extend_from_slice(
-        b"+ nothing is asserted: behind ! come never or always, ACCESS, OWNED, PATTERN, and up to three WHO\n",
+        b"+ invalid assertion: after ! come never or always, ACCESS, OWNED, PATTERN, and up to three WHO\n",
     )
 }
 

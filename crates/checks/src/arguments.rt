@@ -56,7 +56,7 @@ const HELP: &str =
     "Usage: aaset [OPTIONS] <NAME>...|-C |-b <DIR>|add FILE |replace FILE |remove FILE |\
     enforce NAME, complain NAME |disable NAME |undo [N], redo [N] |mark NAME |back NAME |\
     ask file NAME ACCESS OWNED PATH |ask exec NAME OWNED PATH |ask cap NAME CAPABILITY |\
-    ask net NAME DOMAIN TYPE |list |show NAME |/etc/apparmor.d unless|  0  |  1  |  2  |  3  ";
+    ask net NAME DOMAIN TYPE |list |show NAME |/etc/apparmor.d)|  0  |  1  |  2  |  3  ";
 
 // The program's own name, and then the words of these arguments.
 fn started(alloc: Global, arguments: &str) -> Result<Vec<String>, AllocError> {
