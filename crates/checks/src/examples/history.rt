@@ -56,3 +56,15 @@ pub fn number_after_undo(alloc: Global) -> Option<u64> {
     journal.undo(1).ok()?;
     Some(*journal.state())
 }
+
+/// The number that was marked, which is gone back to after later changes were undone and redone.
+pub fn number_at_mark(alloc: Global) -> Option<u64> {
+    let mut journal = Journal::new(alloc, 1);
+    journal.commit(To(2)).ok()?;
+    journal.mark(Vec::from_slice(alloc, b"two").ok()?).ok()?;
+    journal.commit(To(3)).ok()?;
+    journal.undo(2).ok()?;
+    journal.redo(2).ok()?;
+    journal.back(b"two").ok()?;
+    Some(*journal.state())
+}
