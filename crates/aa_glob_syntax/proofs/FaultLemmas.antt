@@ -1,16 +1,19 @@
 -- The first fault of a text's elements is that of its pieces, and its first items are those of its pieces.
-use Rattle.std.proofs.Common.{◌≡◌, ◌∙◌, ℕ, suc, ◌+◌, ◌-◌, ◌≤◌, ◌<◌, nat_le, Bool, true, false, ◌==◌, ◌||◌, ◌&&◌, List, [], ◌∷◌, length, Option, None, Some, Result, Ok, Err, IfOk, IfErr, refl, sym, ap, arith, if◌then◌else◌}
+use Rattle.std.proofs.Common.{◌≡◌, ◌∙◌, ℕ, suc, ◌+◌, ◌-◌, ◌≤◌, ◌<◌, nat_le, Bool, true, false, ◌==◌, ◌||◌, ◌&&◌, List, [], ◌∷◌, length, take, ◌++◌, Option, None, Some, Result, Ok, Err, IfOk, IfErr, refl, sym, ap, arith, if◌then◌else◌}
 use Rattle.std.proofs.lemmas.Bool.Decides.{nat_tests}
 use Rattle.std.proofs.Math.Bool.{and_assoc}
+use Rattle.std.proofs.lemmas.List.{length-take-le}
 use Rattle.std.specs.List.{list_all, prefix_len}
 use Rattle.aa_bytes.specs.Bytes.{comma}
 use Rattle.aa_glob_syntax.specs.Elements.{Element, Single, Open, Comma, Close, Fault, elements}
 use Rattle.aa_glob_syntax.specs.Exactness.{is_exact, literal_prefix}
 use Rattle.aa_glob_syntax.specs.Faults.{fault_at_close, fault_at_end, first_fault, is_byte, spelled}
 use Rattle.aa_glob_syntax.specs.Items.{Item, Byte, Set, Star, DoubleStar, Group, Patterns, NoMore, More}
+use Rattle.aa_glob_syntax.specs.Literals.{literals}
 use Rattle.aa_glob_syntax.specs.OpenGroups.{outer}
 use Rattle.aa_glob_syntax.specs.Reading.{HasNoFirstFault, Pieces, Cut, Ending, Ended, Closed, Refused, behind_comma, deepest, first_of, group, items_of, items_read, onto, pieces, reading, refused, whole}
 use Rattle.aa_glob_syntax.specs.Symbols.{symbols}
+use Rattle.aa_glob_syntax.specs.declared.check.Facts.{Facts}
 use Rattle.aa_glob_syntax.specs.declared.context.Context.TheVariants.{Elsewhere}
 use Rattle.aa_glob_syntax.specs.declared.pattern_error.PatternError.{PatternError}
 use Rattle.aa_glob_syntax.specs.declared.pattern_error.PatternError.TheVariants.{FewAlternatives, StrayClose, TooDeep}
@@ -153,13 +156,16 @@ is_exact-fine text first fine = sym (ap is_exact (items_of-fine text first fine)
 pub literal_prefix-fine : (text : List ℕ) → HasNoFirstFault text → first_fault (spelled text) [] ≡ None → prefix_len is_byte (spelled text) ≡ literal_prefix (items_of text)
 literal_prefix-fine text first fine = sym (ap literal_prefix (items_of-fine text first fine) ∙ literal_prefix-pieces (spelled text))
 
--- one element more
-pub exact-behind : (all exact new : Bool) (e : Element) (es : List Element) → all ≡ (exact && list_all is_byte (e ∷ es)) → new ≡ (exact && is_byte e) → all ≡ (new && list_all is_byte es)
-exact-behind all exact new e es so_far is_new = so_far ∙ sym (and_assoc exact (is_byte e) (list_all is_byte es)) ∙ ap (λ c. c && list_all is_byte es) (sym is_new)
-
 -- how many bytes come first, from those so far, if they go on here
-abbrev pub prefix_with : ℕ → Bool → List Element → ℕ
+abbrev prefix_with : ℕ → Bool → List Element → ℕ
 prefix_with prefix exact es = prefix + (if exact then prefix_len is_byte es else 0)
+
+-- What is known of elements, from the groups and facts so far and from those elements that are left.
+abbrev pub AreKnown : List Element → Facts → List Bool → List Element → Type 0
+AreKnown all facts groups es =
+    (first_fault all [] ≡ first_fault es groups)
+    × (list_all is_byte all ≡ (facts.exact && list_all is_byte es))
+    × (prefix_len is_byte all ≡ prefix_with facts.prefix facts.exact es)
 
 step-prefix : (prefix : ℕ) (exact byte : Bool) (rest : ℕ)
     → prefix + (if exact then (if byte then 1 + rest else 0) else 0) ≡ (if exact && byte then prefix + 1 else prefix) + (if exact && byte then rest else 0)
@@ -167,15 +173,55 @@ step-prefix prefix true true rest = omega arith
 step-prefix prefix true false rest = refl
 step-prefix prefix false byte rest = refl
 
-pub prefix-behind : (all prefix next : ℕ) (exact new : Bool) (e : Element) (es : List Element) → all ≡ prefix_with prefix exact (e ∷ es) → new ≡ (exact && is_byte e)
-    → next ≡ (if exact && is_byte e then prefix + 1 else prefix) → all ≡ prefix_with next new es
-prefix-behind all prefix next exact new e es so_far is_new is_next =
-    so_far ∙ step-prefix prefix exact (is_byte e) (prefix_len is_byte es) ∙ rw (is_new, is_next) refl
+-- one element more
+pub known-behind : (all : List Element) (facts next : Facts) (groups : List Bool) (more : List Bool) (e : Element) (es : List Element)
+    → next.exact ≡ (facts.exact && is_byte e) → next.prefix ≡ (if facts.exact && is_byte e then facts.prefix + 1 else facts.prefix)
+    → first_fault (e ∷ es) groups ≡ first_fault es more → AreKnown all facts groups (e ∷ es) → AreKnown all next more es
+known-behind all facts next groups more e es is_exact is_prefix fault known = (
+  known.0 ∙ fault,
+  known.1 ∙ sym (and_assoc facts.exact (is_byte e) (list_all is_byte es)) ∙ ap (λ c. c && list_all is_byte es) (sym is_exact),
+  known.2 ∙ step-prefix facts.prefix facts.exact (is_byte e) (prefix_len is_byte es) ∙ rw (is_exact, is_prefix) refl,
+)
 
--- the first byte so far leaves room for those that are left
+fault-literals : (bs : List ℕ) (es : List Element) (groups : List Bool) → first_fault (literals bs ++ es) groups ≡ first_fault es groups
+fault-literals [] es groups = refl
+fault-literals (b ∷ bs) es groups = fault-literals bs es groups
+
+exact-literals : (bs : List ℕ) (es : List Element) → list_all is_byte (literals bs ++ es) ≡ list_all is_byte es
+exact-literals [] es = refl
+exact-literals (b ∷ bs) es = exact-literals bs es
+
+prefix-literals : (bs : List ℕ) (es : List Element) → prefix_len is_byte (literals bs ++ es) ≡ length bs + prefix_len is_byte es
+prefix-literals [] es = omega arith
+prefix-literals (b ∷ bs) es = let more = prefix-literals bs es in omega (arith, more)
+
+step-literals : (prefix count rest : ℕ) (exact : Bool) → prefix + (if exact then count + rest else 0) ≡ (if exact then prefix + count else prefix) + (if exact then rest else 0)
+step-literals prefix count rest true = omega arith
+step-literals prefix count rest false = refl
+
+-- so many bytes more that stand for themselves
+pub known-behind_literals : (all : List Element) (facts next : Facts) (groups : List Bool) (text : List ℕ) (count : ℕ) (ds es : List Element)
+    → count ≤ length text → ds ≡ literals (take count text) ++ es → next.exact ≡ facts.exact → next.prefix ≡ (if facts.exact then facts.prefix + count else facts.prefix)
+    → AreKnown all facts groups ds → AreKnown all next groups es
+known-behind_literals all facts next groups text count ds es within begins is_exact is_prefix known =
+    let bs = take count text in
+    let many : length bs ≡ count = length-take-le count text within in (
+      known.0 ∙ ap (λ es. first_fault es groups) begins ∙ fault-literals bs es groups,
+      known.1 ∙ ap (λ es. facts.exact && list_all is_byte es) begins ∙ rw is_exact (ap (λ c. facts.exact && c) (exact-literals bs es)),
+      known.2 ∙ ap (prefix_with facts.prefix facts.exact) begins
+          ∙ ap (λ n. facts.prefix + (if facts.exact then n else 0)) (prefix-literals bs es ∙ ap (λ n. n + prefix_len is_byte es) many)
+          ∙ step-literals facts.prefix count (prefix_len is_byte es) facts.exact ∙ rw (is_exact, is_prefix) refl,
+    )
+
+-- The bytes so far leave room for those that are left.
 pub room-behind : (byte : Bool) (prefix next before after most : ℕ) → next ≡ (if byte then prefix + 1 else prefix) → after < before → prefix + before ≤ most → next + after ≤ most
 room-behind true prefix next before after most is_next shorter room = omega arith
 room-behind false prefix next before after most is_next shorter room = omega arith
+
+pub room-behind_literals : (exact : Bool) (prefix next count before after most : ℕ) → next ≡ (if exact then prefix + count else prefix) → count + after ≤ before → prefix + before ≤ most
+    → next + after ≤ most
+room-behind_literals true prefix next count before after most is_next fewer room = omega arith
+room-behind_literals false prefix next count before after most is_next fewer room = omega arith
 
 -- what two clauses on a result say together, and what one says of an error
 pub IfOk-both : {T E : Type 0} {P Q R : T → Type 0} (r : Result T E) → IfOk r P → IfOk r Q → ((x : T) → P x → Q x → R x) → IfOk r R

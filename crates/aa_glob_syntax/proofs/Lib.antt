@@ -2,5 +2,6 @@ pub mod BitLemmas
 pub mod ClassLemmas
 pub mod ElementLemmas
 pub mod FaultLemmas
+pub mod LiteralLemmas
 pub mod SlashLemmas
 pub mod SymbolLemmas

@@ -6,6 +6,7 @@ pub mod Elements
 pub mod Exactness
 pub mod Faults
 pub mod Items
+pub mod Literals
 pub mod Matching
 pub mod OpenGroups
 pub mod PatternError

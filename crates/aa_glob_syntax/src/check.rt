@@ -11,6 +11,7 @@ ghost use Rattle.aa_glob_syntax.specs.declared.pattern_error.PatternError.TheVar
 use crate::context::Context;
 use crate::element::{Element, next_element};
 use crate::groups::Groups;
+use crate::literals::after_literals;
 use crate::pattern_error::PatternError;
 use aa_bytes::{begins_with_byte, has_byte};
 
@@ -64,7 +65,7 @@ fn check_text(text: &[u8]) -> Result<(), PatternError>
     Ok(())
 }
 
-// Checks the elements of a text, from the first to the last.
+// Checks the elements of a text, from the first to the last. Runs of bytes that stand for themselves are passed at once.
 fn check_elements(text: &[u8]) -> Result<Facts, PatternError>
     requires { length text.now ≤ longest }
     ensures whole { IfOk result (λ facts. first_fault (spelled text.now) [] ≡ None) }
@@ -73,18 +74,16 @@ fn check_elements(text: &[u8]) -> Result<Facts, PatternError>
     ensures refused { IfErr result (λ error. first_fault (spelled text.now) [] ≡ Some error) }
     ensures memory { IfErr result (λ error. error ≢ Memory) }
 {
+    let mut at = after_literals(Context::Elsewhere, text);
     let mut facts = Facts {
         exact: true,
-        prefix: 0,
+        prefix: at.count,
     };
     let mut groups = Groups::none();
-    let mut context = Context::Elsewhere;
-    let mut rest = text;
-    while let Some(next) = next_element(context, rest)? {
+    while let Some(next) = next_element(at.context, at.rest)? {
         groups = groups.behind(next.element)?;
-        facts = facts_behind(facts, next.element);
-        context = next.context;
-        rest = next.rest;
+        at = after_literals(next.context, next.rest);
+        facts = facts_behind_literals(facts_behind(facts, next.element), at.count);
     }
     groups.end()?;
     Ok(facts)
@@ -106,6 +105,22 @@ fn facts_behind(facts: Facts, element: Element) -> Facts
             exact: false,
             prefix: facts.prefix,
         }
+    }
+}
+
+// The facts after so many bytes more that stand for themselves.
+fn facts_behind_literals(facts: Facts, count: usize) -> Facts
+    requires { facts.prefix + count ≤ 2 * longest }
+    ensures exact { result.exact ≡ facts.exact }
+    ensures prefix { result.prefix ≡ (if facts.exact then facts.prefix + count else facts.prefix) }
+{
+    if facts.exact {
+        Facts {
+            exact: true,
+            prefix: facts.prefix + count,
+        }
+    } else {
+        facts
     }
 }
 

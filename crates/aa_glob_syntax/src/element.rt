@@ -11,6 +11,7 @@ ghost use Rattle.aa_glob_syntax.specs.declared.symbol.Symbol.TheVariants.{Plain}
 
 use crate::class::Class;
 use crate::context::{Context, context_after};
+use crate::literals::is_literal;
 use crate::pattern_error::PatternError;
 use crate::star::{begins_plain, behind_stars, is_whole_segment};
 use crate::symbol::{Symbol, first_symbol};
@@ -61,6 +62,12 @@ pub fn next_element<'a>(context: Context, text: &'a [u8]) -> Result<Option<Next<
     ensures refused { IfErr result (λ error. BeginWithFault error (elements context (symbols text.now))) }
     ensures memory { IfErr result (λ error. error ≢ Memory) }
 {
+    // Most bytes of most patterns stand for themselves, whatever the context.
+    if let [byte, rest @ ..] = text {
+        if is_literal(*byte) {
+            return Ok(Some(next_byte(*byte, rest)));
+        }
+    }
     match context {
         Context::AfterStar => next_outside(Context::Elsewhere, behind_stars(text)),
         Context::AfterSlash | Context::Elsewhere => next_outside(context, text),
