@@ -1,38 +1,31 @@
 -- What stands for itself is matched by the same byte alone.
-use Rattle.std.proofs.Common.{◌≡◌, ◌≢◌, ◌∙◌, ◌≤◌, ◌<◌, ◌-◌, drop, get_or, length, take, ℕ, Bool, true, false, ◌==◌, not, List, [], ◌∷◌, ◌++◌, refl, sym, ap, subst, arith, Ok}
-use Rattle.std.proofs.lemmas.Bool.{false_from_ne_true}
+use Rattle.std.proofs.Common.{◌≡◌, ◌≢◌, ◌∙◌, ◌≤◌, ◌<◌, ◌-◌, drop, get_or, length, take, ℕ, Bool, true, false, ◌==◌, not, List, [], ◌∷◌, refl, sym, ap, subst, arith, inl, inr, nat_le, ◌||◌, if◌then◌else◌, Result, Ok, Err}
+use Rattle.std.proofs.lemmas.Bool.{cases_Bool, false_from_ne_true, false≢true}
 use Rattle.std.proofs.lemmas.List.{take_all}
 use Rattle.std.proofs.lemmas.Bool.Decides.{nat_tests}
 use Rattle.std.specs.Str.{bytes_eq}
-use Rattle.aa_glob_syntax.proofs.SymbolLemmas.{symbols-plain}
+use Rattle.aa_bytes.specs.Bytes.{slash}
+use Rattle.aa_glob_syntax.proofs.FaultLemmas.{reading-whole as reading-fine}
+use Rattle.aa_glob_syntax.proofs.LiteralLemmas.{elements-literal}
 use Rattle.aa_glob_syntax.specs.Elements.{context_after, elements}
-use Rattle.aa_glob_syntax.specs.Items.{Byte, End, Next, Pattern}
+use Rattle.aa_glob_syntax.specs.Items.{Byte, Next, Pattern}
 use Rattle.aa_glob_syntax.specs.Matching.{Matches, matches}
-use Rattle.aa_glob_syntax.specs.Reading.{Closed, Cut, Ended, Pieces, Refused, items_of, items_read, onto, pieces, reading, whole}
+use Rattle.aa_glob_syntax.specs.Reading.{Closed, Cut, Ended, HasNoFirstFault, Pieces, Refused, has_zero, items_of, items_read, longest, onto, pieces, reading, whole}
 use Rattle.aa_glob_syntax.specs.Symbols.{symbols}
 use Rattle.aa_glob_syntax.specs.declared.context.Context.{Context}
 use Rattle.aa_glob_syntax.specs.declared.context.Context.TheVariants.{Elsewhere}
-use Rattle.aa_glob_syntax.specs.declared.symbol.Symbol.{Symbol}
-use Rattle.aa_glob_syntax.specs.declared.symbol.Symbol.TheVariants.{Plain}
+use Rattle.aa_glob_syntax.specs.declared.pattern_error.PatternError.{PatternError}
+use Rattle.aa_glob_syntax.specs.declared.pattern_error.PatternError.TheVariants.{TooLong, ZeroByte}
 use Rattle.aa_glob_pattern.proofs.MatchingLemmas.{Decides-matches}
-use Rattle.aa_glob_pattern.proofs.WalkLemmas.{reading-whole}
-use Rattle.aa_glob_pattern.specs.code.Literals.{AreLeft, GoesOn, is_literal, items_left}
+use Rattle.aa_glob_pattern.proofs.WalkLemmas.{behind_first, reading-whole}
+use Rattle.aa_glob_syntax.specs.Literals.{is_literal}
+use Rattle.aa_glob_pattern.specs.code.Literals.{AreLeft, StandFor, items_left}
+use Rattle.aa_glob_pattern.specs.declared.literal.Rest.{Rest}
 
--- a byte that stands for itself passes none of the tests that a reader makes
-tests-of : (b : ℕ) → is_literal b ≡ true
-    → ((b == 92) ≡ false) × ((b == 42) ≡ false) × ((b == 91) ≡ false) × ((b == 63) ≡ false) × ((b == 123) ≡ false) × ((b == 44) ≡ false) × ((b == 125) ≡ false)
-tests-of b literal =
-    (grind (arith, nat_tests), grind (arith, nat_tests), grind (arith, nat_tests), grind (arith, nat_tests), grind (arith, nat_tests), grind (arith, nat_tests), grind (arith, nat_tests))
-
--- a text that begins with one reads as that byte, and then what follows it
+-- a text that begins with a byte that stands for itself reads as that byte, and then what follows it
 pieces-literal : (context : Context) (b : ℕ) (bs : List ℕ) → is_literal b ≡ true
     → pieces 0 (elements context (symbols (b ∷ bs))) ≡ onto (Byte b) (pieces 0 (elements (context_after b) (symbols bs)))
-pieces-literal context b bs literal =
-    let tests = tests-of b literal in
-    ap (λ ls. pieces 0 (elements context ls)) (symbols-plain b bs tests.0) ∙ after (symbols bs)
-  where
-    after : (ls : List Symbol) → pieces 0 (elements context (Plain b ∷ ls)) ≡ onto (Byte b) (pieces 0 (elements (context_after b) ls))
-    after ls = let tests = tests-of b literal in rw (tests.1, tests.2, tests.3, tests.4, tests.5, tests.6) refl
+pieces-literal context b bs literal = ap (pieces 0) (elements-literal context b bs literal)
 
 -- where an item comes before pieces that read as a pattern, they do so without it
 behind-item : (p : Pieces) (b : ℕ) (items : Pattern) → whole (onto (Byte b) p) ≡ Ok items → (whole p ≡ Ok (items_read (whole p))) × (items ≡ Next (Byte b) (items_read (whole p)))
@@ -122,3 +115,61 @@ text-ends text path [] left found none is are = is ∙ bytes-empty left ∙ sym 
     bytes-empty [] = refl
     bytes-empty (b ∷ bs) = grind (arith, nat_tests)
 text-ends text path (b ∷ rest) left found none is are = absurd (omega (arith, none))
+
+-- What is left of a text that reads as a pattern has none of the faults that are checked before anything is read, but that its first byte may be
+-- another one than a slash.
+abbrev pub IsShort : List ℕ → Type 0
+IsShort rest = (length rest ≤ longest) × (has_zero rest ≡ false)
+
+not-refused : (fault : Bool) (error : PatternError) (others : Result Pattern PatternError) (items : Pattern) → (if fault then Err error else others) ≡ Ok items → fault ≡ false
+not-refused true error others items reads = absurd (cc)
+not-refused false error others items reads = refl
+
+pub all-short : (text : List ℕ) → reading text ≡ Ok (items_of text) → IsShort text
+all-short text reads =
+    let items = items_of text in
+    let fits : not (nat_le (length text) longest) ≡ false = not-refused _ TooLong _ items reads in
+    let behind_length = behind_first (not (nat_le (length text) longest)) TooLong _ items reads in
+    (grind (arith, nat_tests), not-refused (has_zero text) ZeroByte _ items behind_length)
+
+none-behind : (b : ℕ) (bs : List ℕ) → has_zero (b ∷ bs) ≡ false → has_zero bs ≡ false
+none-behind b bs none = elim (cases_Bool (b == 0)) [
+  | inl zero ↦ absurd (false≢true (sym none ∙ ap (λ c. c || has_zero bs) zero))
+  | inr other ↦ sym (ap (λ c. c || has_zero bs) other) ∙ none
+]
+
+pub short-behind : (rest : List ℕ) → 1 ≤ length rest → IsShort rest → IsShort (take (length rest - 1) (drop 1 rest))
+short-behind [] some short = absurd (omega (arith, some))
+short-behind (b ∷ bs) some short =
+    let all : take (length (b ∷ bs) - 1) bs ≡ bs = take_all (length (b ∷ bs) - 1) bs (omega arith) in
+    let fewer : length bs ≤ longest = let most = short.0 in omega (arith, most) in
+    subst IsShort (sym all) (fewer, none-behind b bs short.1)
+
+pub all-stand : (text path : List ℕ) → reading text ≡ Ok (items_of text) → StandFor text path text path
+all-stand text path reads = (reads, refl)
+
+-- A slash reads alike wherever it comes, so what is left from there is a text of its own.
+slash-stands : (text path bs left : List ℕ) → IsShort (slash ∷ bs) → AreLeft text path (slash ∷ bs) left → StandFor text path (slash ∷ bs) left
+slash-stands text path bs left short are =
+    let rest = slash ∷ bs in
+    let alike : elements are.0 (symbols rest) ≡ elements Elsewhere (symbols rest) = elements-literal are.0 slash bs refl ∙ sym (elements-literal Elsewhere slash bs refl) in
+    let fine : HasNoFirstFault rest = (short.0, short.1, refl) in
+    let read : reading rest ≡ Ok (items_left are.0 rest) = reading-fine rest fine ∙ sym (ap (λ es. whole (pieces 0 es)) alike) ∙ are.1.0 in
+    let same : items_of rest ≡ items_left are.0 rest = ap items_read read in
+    (read ∙ ap Ok (sym same), are.1.1 ∙ ap (λ items. matches items left) (sym same))
+
+-- the last segment so far begins here, or where it did before
+pub segment-stands : (text path : List ℕ) (here before segment : Rest) → 1 ≤ length here.text.now → IsShort here.text.now → AreLeft text path here.text.now here.path.now
+    → StandFor text path before.text.now before.path.now → segment ≡ (if get_or here.text.now 0 0 == slash then here else before)
+    → StandFor text path segment.text.now segment.path.now
+segment-stands text path here before segment some short are stands is_segment = elim (cases_Bool (get_or here.text.now 0 0 == slash)) [
+  | inl begins ↦
+      let first : get_or here.text.now 0 0 ≡ slash = grind (arith, nat_tests) in
+      let bs = take (length here.text.now - 1) (drop 1 here.text.now) in
+      let is_split : here.text.now ≡ slash ∷ bs = split here.text.now some ∙ ap (λ b. b ∷ bs) first in
+      let stands_here : StandFor text path here.text.now here.path.now =
+      subst (λ r. StandFor text path r here.path.now) (sym is_split)
+      (slash-stands text path bs here.path.now (subst IsShort is_split short) (subst (λ r. AreLeft text path r here.path.now) is_split are)) in
+      subst (λ (s : Rest). StandFor text path s.text.now s.path.now) (sym (is_segment ∙ ap (λ c. if c then here else before) begins)) stands_here
+  | inr other ↦ subst (λ (s : Rest). StandFor text path s.text.now s.path.now) (sym (is_segment ∙ ap (λ c. if c then here else before) other)) stands
+]

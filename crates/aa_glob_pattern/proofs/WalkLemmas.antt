@@ -192,7 +192,7 @@ known-reverse [] trail = refl
 known-reverse (e ∷ es) trail = known-reverse es (e ∷ trail)
 
 -- a text that reads as a pattern has none of the faults that are told first
-behind_first : (c : Bool) (error : PatternError) (rest : Result Pattern PatternError) (items : Pattern) → (if c then Err error else rest) ≡ Ok items → rest ≡ Ok items
+pub behind_first : (c : Bool) (error : PatternError) (rest : Result Pattern PatternError) (items : Pattern) → (if c then Err error else rest) ≡ Ok items → rest ≡ Ok items
 behind_first true error rest items reads = absurd (cc)
 behind_first false error rest items reads = reads
 

@@ -6,27 +6,27 @@ ghost use Rattle.aa_glob_syntax.specs.Reading.{items_of, reading};
 ghost use Rattle.aa_glob_pattern.specs.Active.{AreActive};
 
 use crate::laws::what_reads_to_the_end_matches;
-use crate::literal::literal_match;
+use crate::literal::{LiteralMatch, literal_match};
 use crate::pass::pass;
 
 // How many beginnings there may be: two elements for each byte of the longest pattern, and the empty beginning.
 const MOST_PREFIXES: usize = 8_193;
 
 /// Whether a path, of any bytes, matches the pattern that a text reads as (`docs/policy.md`, "Patterns"). A directory's path has to end with `/`,
-/// which the caller writes. It takes no memory. A path that differs in the pattern's literal beginning is told by that. Else the text is read again
-/// for each byte of the path, until none of its beginnings is read by the bytes so far: so the work is `O(n * m)` for n bytes of path and m bytes of
-/// text. An automaton (`aa_glob`) answers the same question sooner.
+/// which the caller writes. It takes no memory. A path that differs from the pattern's literal beginning matches by no pass. Else the text is read
+/// again, from the last slash of that beginning, for each byte of the path from there, until none of its beginnings is read by the bytes so far: so
+/// the work is `O(n * m)` for n bytes of path and m bytes of text. An automaton (`aa_glob`) answers the same question sooner.
 pub fn matches_text(text: &[u8], path: &[u8]) -> bool
     requires { reading text.now ≡ Ok (items_of text.now) }
     ensures { result ≡ matches (items_of text.now) path.now }
 {
     match literal_match(text, path) {
-        Some(found) => found,
-        None => matches_by_passes(text, path),
+        LiteralMatch::Found(found) => found,
+        LiteralMatch::Open(rest) => matches_by_passes(rest.text, rest.path),
     }
 }
 
-// Matches where the literal beginning doesn't tell it. The room is cleared at each call, so it is chosen by the text's length.
+// Matches by passes over the whole text. The room is cleared at each call, so it is chosen by the text's length.
 fn matches_by_passes(text: &[u8], path: &[u8]) -> bool
     requires { reading text.now ≡ Ok (items_of text.now) }
     ensures { result ≡ matches (items_of text.now) path.now }
