@@ -1,6 +1,6 @@
 //! How much work a run was.
 
-ghost use Rattle.std.specs.Prelude.{◌≡◌};
+ghost use Rattle.std.specs.Prelude.{◌≡◌, ◌*◌};
 ghost use Rattle.aa_glob_nfa.specs.Steps.{counted};
 
 use std::marker::Model;
@@ -46,5 +46,12 @@ impl Steps {
         ensures { self.new ≡ counted self.old states }
     {
         self.count = self.count.saturating_add(states as u128);
+    }
+
+    /// Adds the visits of so many states at each of so many places to the count, which saturates.
+    pub fn visited_at(&mut self, states: usize, places: usize)
+        ensures { self.new ≡ counted self.old (states * places) }
+    {
+        self.count = self.count.saturating_add(states as u128 * places as u128);
     }
 }

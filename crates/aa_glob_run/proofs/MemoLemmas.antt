@@ -4,7 +4,7 @@ use Rattle.std.proofs.lemmas.Bool.{cases_eq}
 use Rattle.std.proofs.lemmas.List.{get_or-append_right, get_or_append_left, get_or-replicate, get_or-set_other, get_or-set_same, length-set}
 use Rattle.std.proofs.lemmas.List.Elements.{All-nil, All-push}
 use Rattle.std.specs.declared.alloc.AllocError.{AllocError}
-use Rattle.aa_glob_nfa.specs.Graphs.{Graph, Reaches}
+use Rattle.aa_glob_nfa.specs.Graphs.{Graph}
 use Rattle.aa_glob_nfa.specs.Fronts.{IsLive}
 use Rattle.aa_glob_nfa.specs.Runs.{IsWhole, LeadsTo}
 use Rattle.aa_glob_run.specs.code.Memos.{IsMemo, IsRight, front_of, place_of, unknown_row, with_move}

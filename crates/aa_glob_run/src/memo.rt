@@ -1,6 +1,6 @@
 //! What is remembered of runs: the states that are live together at a place, and which are live after a byte.
 
-ghost use Rattle.std.specs.Prelude.{◌≡◌, ◌<◌, ◌++◌, ◌∷◌, [], ℕ, false, length, IfSome, OnOk, OnErr, IfOk};
+ghost use Rattle.std.specs.Prelude.{◌≡◌, ◌<◌, ◌≤◌, ◌++◌, ◌∷◌, [], ℕ, false, length, slice_index_or, true, IfSome, OnOk, OnErr, IfOk};
 ghost use Rattle.aa_glob_nfa.specs.Graphs.{Graph};
 ghost use Rattle.aa_glob_run.specs.code.Memos.{HasRows, IsEmpty, Notes, Remembers, front_at, fronts_in, most_fronts, unknown_row, with_move};
 
@@ -97,6 +97,34 @@ impl Memo {
         ensures { IfSome result (λ to. Notes self.now.moves.items number byte to) }
     {
         usize::from(self.moves[number * 256 + usize::from(byte)]).checked_sub(1)
+    }
+
+    // Whether a list is known to follow itself by a byte.
+    fn is_kept(&self, number: usize, byte: u8) -> bool
+        requires rows { HasRows self.now }
+        requires within { number < length (fronts_in self.now) }
+        ensures { result ≡ true → Notes self.now.moves.items number byte number }
+    {
+        match self.behind(number, byte) {
+            None => false,
+            Some(to) => to == number,
+        }
+    }
+
+    // How many bytes a text begins with by each of which a list is known to follow itself. No byte waits for the one before it, so that is quicker
+    // than to go on from list to list.
+    pub fn kept_by(&self, number: usize, text: &[u8]) -> usize
+        requires rows { HasRows self.now }
+        requires within { number < length (fronts_in self.now) }
+        ensures within { result ≤ length text.now }
+        ensures each { (i : ℕ) → i < result → Notes self.now.moves.items number (slice_index_or text.now i 0) number }
+    {
+        for (at, byte) in text.iter().enumerate() {
+            if !self.is_kept(number, *byte) {
+                return at;
+            }
+        }
+        text.len()
     }
 
     // The number of an equal list, if one is found.

@@ -1,11 +1,11 @@
 //! What follows at a place of a text, by what is remembered, and how it comes to be remembered.
 
-ghost use Rattle.std.specs.Prelude.{◌≡◌, ◌<◌, ◌≤◌, ℕ, length, true, IfOk, IfSome, OnOk};
+ghost use Rattle.std.specs.Prelude.{◌≡◌, ◌≢◌, ◌<◌, ◌≤◌, ◌+◌, ℕ, length, slice_index_or, suc, true, IfOk, IfSome, OnOk};
 ghost use Rattle.aa_glob_nfa.specs.Graphs.{Graph};
 ghost use Rattle.aa_glob_nfa.specs.OfTables.{AreSound, AreSorted, graph_of};
 ghost use Rattle.aa_glob_nfa.specs.Fronts.{IsLive};
 ghost use Rattle.aa_glob_nfa.specs.Runs.{LeadsTo};
-ghost use Rattle.aa_glob_run.specs.code.Memos.{HasRows, IsRecalling, Remembers, front_at, fronts_in, most_fronts, most_new};
+ghost use Rattle.aa_glob_run.specs.code.Memos.{HasRows, IsRecalling, Notes, Remembers, front_at, fronts_in, most_fronts, most_new};
 
 use crate::memo::Memo;
 use aa_glob_nfa::{Steps, Tables, first, follow};
@@ -160,6 +160,23 @@ pub struct Far {
     pub number: usize,
 }
 
+// So many places of a text are passed at once where a list goes on to another by a byte: one, and where the other is the list itself, one more for each
+// byte after it that keeps the list.
+fn places_passed(memo: &Memo, from: usize, to: usize, after: &[u8]) -> usize
+    requires rows { HasRows memo.now }
+    requires there { from < length (fronts_in memo.now) }
+    ensures some { 0 < result }
+    ensures within { result ≤ 1 + length after.now }
+    ensures one { from ≢ to → result ≡ 1 }
+    ensures kept { (i : ℕ) → suc i < result → Notes memo.now.moves.items to (slice_index_or after.now i 0) to }
+{
+    if from == to {
+        1 + memo.kept_by(to, after)
+    } else {
+        1
+    }
+}
+
 // Follows a text by what is remembered, as far as that goes. The visits at each place before the one where it stops are counted. `None` where
 // nothing is remembered.
 pub fn known_far(tables: &Tables, text: &[u8], memo: &Memo, steps: &mut Steps) -> Option<Far>
@@ -178,8 +195,9 @@ pub fn known_far(tables: &Tables, text: &[u8], memo: &Memo, steps: &mut Steps) -
         let live = memo.front(far.number).len();
         match memo.behind(far.number, text[far.place]) {
             Some(number) if live > 0 => {
-                steps.visited(live);
-                far.place += 1;
+                let places = places_passed(memo, far.number, number, &text[far.place + 1..]);
+                steps.visited_at(live, places);
+                far.place += places;
                 far.number = number;
             }
             _ => return Some(far),

@@ -1,15 +1,10 @@
-use Rattle.std.proofs.Common.{◌≡◌, ◌≢◌, ◌<◌, ◌≤◌, ◌+◌, suc, length, reverse, take, ap, subst, ◌∙◌, arith}
-use Rattle.std.proofs.lemmas.List.Elements.{All-get_or}
-use Rattle.aa_glob_nfa.specs.Graphs.{Reaches}
+use Rattle.std.proofs.Common.{◌≡◌, ◌≢◌, ℕ, ◌<◌, ◌≤◌, ◌+◌, ◌-◌, ◌*◌, suc, drop, get_or, length, take, ap, subst, ◌∙◌, arith}
+use Rattle.std.proofs.lemmas.List.{get_or-drop, get_or-take, length-drop, length-take-le}
 use Rattle.aa_glob_nfa.specs.OfTables.{graph_of}
-use Rattle.aa_glob_nfa.specs.Fronts.{IsLive}
 use Rattle.aa_glob_nfa.specs.Steps.{counted}
-use Rattle.aa_glob_nfa.specs.Visits.{CountsVisits}
-use Rattle.aa_glob_nfa.proofs.FrontLemmas.{length_distinct}
-use Rattle.aa_glob_nfa.proofs.RunLemmas.{reverse-longer}
-use Rattle.aa_glob_nfa.proofs.VisitLemmas.{counts_more, counts_none}
-use Rattle.aa_glob_run.proofs.RecallLemmas.{recalled_more, recalled_start}
-use Rattle.aa_glob_run.specs.code.Memos.{front_at, fronts_in}
+use Rattle.aa_glob_nfa.proofs.VisitLemmas.{counts_none}
+use Rattle.aa_glob_run.proofs.RecallLemmas.{recalled_passed, recalled_start}
+use Rattle.aa_glob_run.specs.code.Memos.{Notes, front_at, fronts_in}
 use Rattle.aa_glob_run.proofs.recall.known_far.Goals as goal
 
 pub loop-far-init : goal.loop-far-init
@@ -33,35 +28,30 @@ loop-far-init c =
 pub loop-far-preserved : goal.loop-far-preserved
 loop-far-preserved c =
     let t = c.args.tables.now in
-    let g = graph_of t in
-    let room = length t.states in
     let memo = c.args.memo.now in
     let text = c.args.text.now in
     let i = c.loop-far.far.place in
-    let at = c.loop-far.far.number in
-    let past = reverse (take i text) in
-    let live = front_at memo at in
-    let to = front_at memo c.in-Some.number in
+    let from = c.loop-far.far.number in
+    let to = c.in-Some.number in
+    let passed = c.places_passed-places in
     let inv = c.loop-far.invariant.recalling in
-    let is_live : IsLive room live = All-get_or (IsLive room) (fronts_in memo) at _ inv.within c.requires.memo.lists in
-    let lives : length live ≢ 0 = omega (arith, ap length c.front-live.ensures, c.if-live-gt0.true) in
-    let fits : length live ≤ room = length_distinct room live is_live.0 is_live.1 in
-    let steps : c.visited.new.self ≡ counted c.loop-far.steps (length live) = c.visited.ensures ∙ ap (λ l. counted c.loop-far.steps (length l)) c.front-live.ensures in
-    let right = c.requires.memo.known at _ c.in-Some.number inv.within (omega arith) c.in-Some.ensures in
-    let whole = right.1 past inv.whole in
-    let one_more : suc i ≡ i + 1 = omega arith in
+    let lives : length (front_at memo from) ≢ 0 = omega (arith, ap length c.front-live.ensures, c.if-live-gt0.true) in
+    let steps : c.visited_at.new.self ≡ counted c.loop-far.steps (length (front_at memo from) * passed.result) =
+    c.visited_at.ensures ∙ ap (λ l. counted c.loop-far.steps (length l * passed.result)) c.front-live.ensures in
+    let left : length (drop (i + 1) text) ≡ length text - (i + 1) = length-drop (i + 1) text in
+    let longer : length (take (length text - (i + 1)) (drop (i + 1) text)) ≡ length text - (i + 1) = length-take-le (length text - (i + 1)) (drop (i + 1) text) (omega (arith, left)) in
+    let most = passed.ensures.within in
+    let within : i + passed.result ≤ length text = omega (arith, most, longer, c.loop-far-test.true) in
+    let kept : (j : ℕ) → suc j < passed.result → Notes memo.moves.items to (get_or text (i + 1 + j) 0) to =
+    λ j low.
+    let before : j < length text - (i + 1) = omega (arith, most, longer, low) in
+    let same : get_or (take (length text - (i + 1)) (drop (i + 1) text)) j 0 ≡ get_or text (i + 1 + j) 0 =
+    get_or-take (length text - (i + 1)) (drop (i + 1) text) j 0 before ∙ get_or-drop (i + 1) text j 0 in
+    subst (λ b. Notes memo.moves.items to b to) same (passed.ensures.kept j low)
+    in
     record {
-      within = omega (arith, c.loop-far-test.true);
-      recalling = record {
-        within = right.0;
-        whole = rw (reverse-longer text i 0 c.loop-far-test.true) whole;
-        run = record {
-          running =
-              rw (reverse-longer text i 0 c.loop-far-test.true)
-              (recalled_more g past room i _ c.args.steps.now c.loop-far.steps c.visited.new.self live to inv.run.running lives fits steps whole);
-          counts =
-              subst (λ places. CountsVisits (Reaches g) text places c.args.steps.now c.visited.new.self) one_more
-              (counts_more g text live i c.args.steps.now c.loop-far.steps c.visited.new.self inv.run.counts inv.whole is_live.0 steps);
-        };
-      };
+      within = within;
+      recalling =
+          recalled_passed (graph_of t) text i (length t.states) passed.result memo from to c.args.steps.now c.loop-far.steps c.visited_at.new.self c.requires.memo (λ j. let fits = c.type_inv.text j in omega (arith, fits)) within passed.ensures.some
+          passed.ensures.one inv lives c.in-Some.ensures kept steps;
     }
