@@ -3,4 +3,5 @@ pub mod AttachmentLemmas
 pub mod FindLemmas
 pub mod NameLemmas
 pub mod PartLemmas
+pub mod PickLemmas
 pub mod SameLemmas

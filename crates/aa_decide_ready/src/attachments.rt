@@ -6,7 +6,7 @@ ghost use Rattle.aa_decide_ready.specs.SlotAttachments.{AreAttaching, attachment
 ghost use Rattle.aa_decide_ready.specs.Indexes.{IsAttachmentIndexOf};
 
 use crate::entry::Entry;
-use crate::part::picked;
+use crate::part::pick;
 use aa_bytes::Sequence;
 use aa_glob::{Automaton, AutomatonBuilder, Steps};
 use aa_glob_pattern::Pattern;
@@ -71,8 +71,8 @@ impl AttachmentIndex {
     pub fn attaching(&self, alloc: Global, path: &[u8]) -> Result<Vec<usize>, AllocError>
         ensures { IfOk result (λ found. (slots : List (Option Loaded)) → IsAttachmentIndexOf self.now slots → AreAttaching path.now slots found.items) }
     {
-        let places = self.automaton.matching(alloc, path, &mut Steps::new())?;
-        let mut found = picked(alloc, self.owners.as_slice(), places.as_slice())?;
+        let mut found = self.automaton.matching(alloc, path, &mut Steps::new())?;
+        pick(self.owners.as_slice(), &mut found);
         found.sort_unstable();
         found.dedup();
         Ok(found)

@@ -1,6 +1,6 @@
 //! Automata of a profile, and of each of its children and hats.
 
-ghost use Rattle.std.specs.Prelude.{◌≡◌, ◌++◌, ◌∷◌, [], ℕ, List, IfOk, OnOk};
+ghost use Rattle.std.specs.Prelude.{◌≡◌, ◌++◌, ◌∷◌, [], ℕ, List, slice_get, IfOk, OnOk};
 ghost use Rattle.std.specs.List.Sorted.{IsStrictlyIncreasing};
 ghost use Rattle.aa_glob.specs.Automata.{IsAutomatonOf};
 ghost use Rattle.aa_glob_syntax.specs.Patterns.{AreMatching};
@@ -105,7 +105,29 @@ pub fn file_places(alloc: Global, rules: &[Rule]) -> Result<Vec<usize>, AllocErr
     Ok(places)
 }
 
-/// The numbers at some places of a list, in the order of the places. Places past the end are left out.
+/// Replaces places by the numbers that a list has there, in the order of the places. Places past the end are left out. It takes no memory; `O(n)` in
+/// the number of places.
+pub fn pick(numbers: &[usize], places: &mut Vec<usize>)
+    ensures { places.new.items ≡ picked numbers.now places.old.items }
+{
+    let mut kept = 0;
+    for at in 0..places.len() {
+        if let Some(number) = number_at(numbers, places[at]) {
+            places[kept] = number;
+            kept += 1;
+        }
+    }
+    places.truncate(kept);
+}
+
+// The number that a list has at a place, if it has one.
+fn number_at(numbers: &[usize], place: usize) -> Option<usize>
+    ensures { result ≡ slice_get numbers.now place }
+{
+    numbers.get(place).copied()
+}
+
+/// The numbers that a list has at some places, as [`pick`] finds them.
 ///
 /// # Errors
 ///
@@ -113,14 +135,8 @@ pub fn file_places(alloc: Global, rules: &[Rule]) -> Result<Vec<usize>, AllocErr
 pub fn picked(alloc: Global, numbers: &[usize], places: &[usize]) -> Result<Vec<usize>, AllocError>
     ensures { IfOk result (λ found. found.items ≡ picked numbers.now places.now) }
 {
-    let mut found = Vec::with_capacity(alloc, places.len())?;
-    let mut rest = places;
-    while let [place, behind @ ..] = rest {
-        if let Some(number) = numbers.get(*place) {
-            found.push(*number)?;
-        }
-        rest = behind;
-    }
+    let mut found = Vec::from_slice(alloc, places)?;
+    pick(numbers, &mut found);
     Ok(found)
 }
 
@@ -167,8 +183,9 @@ impl FileRules {
             → OnOk result (AreAllVisitsOf (file_patterns rules) path.now steps.old steps.new) }
     {
         which_rules_match();
-        let found = self.automaton.matching(alloc, path, steps)?;
-        picked(alloc, self.places.as_slice(), found.as_slice())
+        let mut found = self.automaton.matching(alloc, path, steps)?;
+        pick(self.places.as_slice(), &mut found);
+        Ok(found)
     }
 
     // Remembers which states are live at the places of a path (`Automaton::remember`), and returns whether all of this is remembered now.

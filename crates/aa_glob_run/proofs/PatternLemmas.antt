@@ -1,17 +1,14 @@
 -- The patterns of ends, gathered and put in order.
-use Rattle.std.proofs.Common.{reverse, not, cond, ◌==◌, ◌≡◌, ◌≢◌, ℕ, ◌+◌, ◌-◌, ◌<◌, ◌≤◌, ◌↔◌, List, [], ◌∷◌, ◌++◌, length, map, take, get_or, Some, sym, ◌∙◌, ap, ap₂, subst, inl, inr, arith}
-use Rattle.std.proofs.lemmas.Bool.{cases_Bool, cases_eq, eqb-true, eqb-false, not-true, not-false, or_cases, or_parts}
+use Rattle.std.proofs.Common.{reverse, ◌≡◌, ℕ, ◌+◌, ◌↔◌, List, [], ◌∷◌, ◌++◌, length, map, Some, sym, ◌∙◌, ap, ap₂, subst, inl, inr, arith}
+use Rattle.std.proofs.lemmas.Bool.{cases_eq}
 use Rattle.std.proofs.lemmas.Option.{slice_get-get_or}
-use Rattle.std.proofs.lemmas.List.{take_more, length-take, get_or-take, get_or_default}
-use Rattle.std.proofs.lemmas.List.Elements.{All-contains, Contains-append_left, Contains-push, Contains-push_cases, Contains-get_or}
-use Rattle.std.proofs.lemmas.List.Quantifiers.{all_pairs_push}
-use Rattle.std.specs.Prelude.{All, AllPairs, Contains, slice_get, Result, Ok, Err, OnOk}
-use Rattle.std.specs.List.Sorted.{IsNonDecreasing}
+use Rattle.std.proofs.lemmas.List.Elements.{All-contains, Contains-append_left, Contains-push, Contains-push_cases}
+use Rattle.std.specs.Prelude.{All, Contains, slice_get, Result, Ok, Err, OnOk}
 use Rattle.aa_glob_nfa.specs.Graphs.{Graph, EndsAt, IsFound, Reaches}
 use Rattle.aa_glob_nfa.specs.Runs.{IsWhole}
 use Rattle.aa_glob_nfa.proofs.RunLemmas.{Contains-slice_get}
 use Rattle.aa_glob_run.specs.Ends.{IsEndIn}
-use Rattle.aa_glob_run.specs.code.Ends.{Gets, is_new}
+use Rattle.aa_glob_run.specs.code.Ends.{Gets}
 use Rattle.aa_glob_nfa.specs.OfTables.{graph_of}
 use Rattle.aa_glob_nfa.specs.declared.state.End.{End}
 use Rattle.aa_glob_nfa.specs.declared.tables.Tables.{Tables}
@@ -68,71 +65,6 @@ ends_more g at q live old new before found gets p = (
     | inr other ↦ inl ((before p).1 (known.0, known.1, omega (arith, known.2), known.3, known.4))
   ])),
 )
-
--- numbers that rise: those of a front of some in order, each once
-pub rising_more : (numbers each grown : List ℕ) (at : ℕ) → IsNonDecreasing numbers → at < length numbers
-    → ((p : ℕ) → Contains each p ↔ Contains (take at numbers) p) → AllPairs (λ p q. p < q) each
-    → (0 < at → get_or numbers (at - 1) 0 ≢ get_or numbers at 0) → grown ≡ each ++ get_or numbers at 0 ∷ []
-    → ((p : ℕ) → Contains grown p ↔ Contains (take (at + 1) numbers) p) × AllPairs (λ p q. p < q) grown
-rising_more numbers each grown at order within same rise differs is =
-    let n = get_or numbers at 0 in (
-      (λ p. (
-        (λ h. rw (take_more numbers at 0 within) (elim (Contains-push_cases each n p (subst (λ l. Contains l p) is h)) [
-          | inl early ↦ Contains-append_left (take at numbers) (n ∷ []) p ((same p).0 early)
-          | inr last ↦ subst (λ x. Contains (take at numbers ++ n ∷ []) x) last (Contains-push (take at numbers) n)
-        ])),
-        (λ h. subst (λ l. Contains l p) (sym is) (elim (Contains-push_cases (take at numbers) n p (subst (λ l. Contains l p) (take_more numbers at 0 within) h)) [
-          | inl early ↦ Contains-append_left each (n ∷ []) p ((same p).1 early)
-          | inr last ↦ subst (λ x. Contains (each ++ n ∷ []) x) last (Contains-push each n)
-        ])),
-      )),
-      subst (AllPairs (λ p q. p < q)) (sym is) (all_pairs_push (λ p q. p < q) each n rise (λ k d low.
-          let there = (same (get_or each k d)).0 (Contains-get_or each k d low) in
-          let inside : there.0 < at = omega (arith, there.1, length-take at numbers) in
-          let read : get_or numbers there.0 0 ≡ get_or each k d =
-          get_or_default numbers there.0 0 (get_or each k d) (omega arith) ∙ sym (get_or-take at numbers there.0 (get_or each k d) inside) ∙ there.2 in
-          let below : get_or numbers there.0 0 ≤ get_or numbers (at - 1) 0 = order there.0 (at - 1) 0 (omega arith) (omega arith) in
-          let step : get_or numbers (at - 1) 0 ≤ get_or numbers at 0 = order (at - 1) at 0 (omega arith) within in
-          let other = differs (omega arith) in
-          omega arith)),
-    )
-
-pub rising_same : (numbers each : List ℕ) (at : ℕ) → at < length numbers → ((p : ℕ) → Contains each p ↔ Contains (take at numbers) p) → 0 < at
-    → get_or numbers (at - 1) 0 ≡ get_or numbers at 0 → (p : ℕ) → Contains each p ↔ Contains (take (at + 1) numbers) p
-rising_same numbers each at within same some twice p =
-    let n = get_or numbers at 0 in (
-      (λ h. rw (take_more numbers at 0 within) (Contains-append_left (take at numbers) (n ∷ []) p ((same p).0 h))),
-      (λ h. (same p).1 (elim (Contains-push_cases (take at numbers) n p (subst (λ l. Contains l p) (take_more numbers at 0 within) h)) [
-        | inl early ↦ early
-        | inr last ↦
-            let low : at - 1 < length (take at numbers) = omega (arith, length-take at numbers) in
-            let read : get_or (take at numbers) (at - 1) 0 ≡ p = get_or-take at numbers (at - 1) 0 (omega arith) ∙ twice ∙ last in
-            subst (λ x. Contains (take at numbers) x) read (Contains-get_or (take at numbers) (at - 1) 0 low)
-      ])),
-    )
-
-pub rising_step : (numbers each grown : List ℕ) (at : ℕ) → IsNonDecreasing numbers → at < length numbers
-    → ((p : ℕ) → Contains each p ↔ Contains (take at numbers) p) → AllPairs (λ p q. p < q) each
-    → grown ≡ cond (is_new numbers at) (each ++ get_or numbers at 0 ∷ []) each
-    → ((p : ℕ) → Contains grown p ↔ Contains (take (at + 1) numbers) p) × AllPairs (λ p q. p < q) grown
-rising_step numbers each grown at order within same rise is =
-    let n = get_or numbers at 0 in
-    elim (cases_Bool (is_new numbers at)) [
-      | inl new ↦
-          let put : grown ≡ each ++ n ∷ [] = is ∙ ap (λ b. cond b (each ++ n ∷ []) each) new in
-          rising_more numbers each grown at order within same rise
-          (λ some twice. elim (or_cases (at == 0) (not (get_or numbers (at - 1) 0 == n)) new) [
-            | inl first ↦ let none : at ≡ 0 = eqb-true at 0 first in omega arith
-            | inr other ↦ eqb-false _ n (not-true _ other) twice
-          ])
-          put
-      | inr old ↦
-          let kept : grown ≡ each = is ∙ ap (λ b. cond b (each ++ n ∷ []) each) old in
-          let parts = or_parts (at == 0) (not (get_or numbers (at - 1) 0 == n)) old in
-          let later : at ≢ 0 = eqb-false at 0 parts.0 in
-          let all = rising_same numbers each at within same (omega arith) (eqb-true _ n (not-false _ parts.1)) in
-          (subst (λ l. (p : ℕ) → Contains l p ↔ Contains (take (at + 1) numbers) p) (sym kept) all, subst (AllPairs (λ p q. p < q)) (sym kept) rise)
-    ]
 
 -- a fact holds of a success too
 pub OnOk-from : {T R : Type 0} → (r : Result T R) (P : Type 0) → P → OnOk r P

@@ -1,6 +1,7 @@
 //! The patterns whose ends a text reaches.
 
-ghost use Rattle.std.specs.Prelude.{◌<◌, length, AllPairs, IfOk, OnOk};
+ghost use Rattle.std.specs.Prelude.{length, IfOk, OnOk};
+ghost use Rattle.std.specs.List.Sorted.{IsStrictlyIncreasing};
 ghost use Rattle.aa_glob_nfa.specs.Steps.{IsCounted, most_visits};
 ghost use Rattle.aa_glob_nfa.specs.Visits.{CountsAllVisits, CountsFirstVisits};
 ghost use Rattle.aa_glob_nfa.specs.Graphs.{IsFound, Reaches};
@@ -25,7 +26,7 @@ pub fn ends(
     requires sorted { AreSorted tables.now }
     requires memo { Remembers (graph_of tables.now) (length tables.now.states) memo.now }
     ensures found { IfOk result (λ patterns. IsFound (graph_of tables.now) text.now patterns.items) }
-    ensures rise { IfOk result (λ patterns. AllPairs (λ p q. p < q) patterns.items) }
+    ensures rise { IfOk result (λ patterns. IsStrictlyIncreasing patterns.items) }
     ensures steps { IsCounted 0 (most_visits text.now (length tables.now.states)) steps.old steps.new }
     ensures visits { OnOk result (IsCounted 1 (most_visits text.now (length tables.now.states)) steps.old steps.new) }
     ensures all { OnOk result (CountsAllVisits (Reaches (graph_of tables.now)) text.now steps.old steps.new) }

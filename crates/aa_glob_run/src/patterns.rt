@@ -1,10 +1,10 @@
 //! The patterns whose ends were reached.
 
-ghost use Rattle.std.specs.Prelude.{◌≡◌, ◌<◌, ◌≤◌, ◌↔◌, ℕ, length, All, AllPairs, Contains, IfOk, OnOk};
-ghost use Rattle.std.specs.List.Sorted.{IsNonDecreasing};
+ghost use Rattle.std.specs.Prelude.{◌<◌, length, All, IfOk, OnOk};
+ghost use Rattle.std.specs.List.Sorted.{IsStrictlyIncreasing};
 ghost use Rattle.aa_glob_nfa.specs.Graphs.{EndsAt};
 ghost use Rattle.aa_glob_run.specs.Ends.{AreEndsOf};
-ghost use Rattle.aa_glob_run.specs.code.Ends.{Gets, is_new, with_new};
+ghost use Rattle.aa_glob_run.specs.code.Ends.{Gets};
 ghost use Rattle.aa_glob_nfa.specs.OfTables.{AreSound, AreSorted, graph_of};
 
 use aa_glob_nfa::Tables;
@@ -20,15 +20,16 @@ pub fn patterns_of(alloc: Global, tables: &Tables, live: &[u32]) -> Result<Vec<u
     requires sorted { AreSorted tables.now }
     requires are_states { All (λ r. r < length tables.now.states) live.now }
     ensures found { IfOk result (λ patterns. AreEndsOf (graph_of tables.now) live.now patterns.items) }
-    ensures rise { IfOk result (λ patterns. AllPairs (λ p q. p < q) patterns.items) }
+    ensures rise { IfOk result (λ patterns. IsStrictlyIncreasing patterns.items) }
 {
     let mut found = found_by(alloc, tables, live)?;
     found.sort_unstable();
-    rising(alloc, &found)
+    found.dedup();
+    Ok(found)
 }
 
 // The patterns that end at these states, state by state; a pattern may be there more than once.
-fn found_by(alloc: Global, tables: &Tables, live: &[u32]) -> Result<Vec<u32>, AllocError>
+fn found_by(alloc: Global, tables: &Tables, live: &[u32]) -> Result<Vec<usize>, AllocError>
     requires sound { AreSound tables.now }
     requires sorted { AreSorted tables.now }
     requires are_states { All (λ r. r < length tables.now.states) live.now }
@@ -42,46 +43,14 @@ fn found_by(alloc: Global, tables: &Tables, live: &[u32]) -> Result<Vec<u32>, Al
 }
 
 // Appends the patterns that end at a state.
-fn push_found(tables: &Tables, state: u32, found: &mut Vec<u32>) -> Result<(), AllocError>
+fn push_found(tables: &Tables, state: u32, found: &mut Vec<usize>) -> Result<(), AllocError>
     requires sound { AreSound tables.now }
     requires sorted { AreSorted tables.now }
     requires is_state { state < length tables.now.states }
     ensures { OnOk result (Gets found.old.items found.new.items (EndsAt (graph_of tables.now) state)) }
 {
     for end in tables.ends_of(state) {
-        found.push(end.pattern)?;
+        found.push(end.pattern as usize)?;
     }
     Ok(())
-}
-
-// Sorted numbers, each once.
-fn rising(alloc: Global, numbers: &[u32]) -> Result<Vec<usize>, AllocError>
-    requires { IsNonDecreasing numbers.now }
-    ensures same { IfOk result (λ each. (p : ℕ) → Contains each.items p ↔ Contains numbers.now p) }
-    ensures rise { IfOk result (λ each. AllPairs (λ p q. p < q) each.items) }
-{
-    let mut each = Vec::with_capacity(alloc, numbers.len())?;
-    for at in 0..numbers.len() {
-        put_new(numbers, at, &mut each)?;
-    }
-    Ok(each)
-}
-
-// Appends the number at an index, if it differs from the one before it.
-fn put_new(numbers: &[u32], at: usize, each: &mut Vec<usize>) -> Result<(), AllocError>
-    requires { at < length numbers.now }
-    ensures { OnOk result (each.new.items ≡ with_new numbers.now at each.old.items) }
-{
-    if is_new(numbers, at) {
-        each.push(numbers[at] as usize)?;
-    }
-    Ok(())
-}
-
-// Whether the number at an index differs from the one before it, or is the first.
-fn is_new(numbers: &[u32], at: usize) -> bool
-    requires { at < length numbers.now }
-    ensures { result ≡ is_new numbers.now at }
-{
-    at == 0 || numbers[at - 1] != numbers[at]
 }

@@ -1,5 +1,6 @@
 use Rattle.std.proofs.Common.{◌≡◌, ◌+◌, ◌<◌, false, length, subst, sym, true, ◌∙◌}
 use Rattle.std.proofs.lemmas.List.Elements.{All-get_or}
+use Rattle.std.proofs.lemmas.List.Kept.{AllPairs-from_increasing}
 use Rattle.std.specs.Option.{is_some}
 use Rattle.std.specs.Prelude.{All}
 use Rattle.indexmap.proofs.CallerLemmas.{insert_entry-new}
@@ -68,7 +69,7 @@ returns c =
     (record {
       bytes = c.in_ok-path.ensures.bytes;
       found = found_all g path (set_at sets number) places (c.in_ok-path.ensures.leads g room c.requires.found) told;
-      rise = c.in_ok-places.ensures.rise;
+      rise = AllPairs-from_increasing places c.in_ok-places.ensures.rise;
       told = are-told classes places has;
     })
     c.in_ok-path.ensures.behind
