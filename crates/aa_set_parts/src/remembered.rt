@@ -11,7 +11,7 @@ const MOST_ASKERS: usize = 8;
 // How many fingerprints are kept.
 const FINGERPRINTS: usize = 4096;
 
-// How many bytes at a path's end go into its fingerprint.
+// How many bytes at a path's beginning, and at its end, go into its fingerprint.
 const MOST_PRINTED: usize = 256;
 
 /// A profile in a slot, or its child or hat at an index.
@@ -30,27 +30,36 @@ pub(crate) struct Remembered {
     fingerprints: Vec<u32>,
 }
 
-/// A number by which a question is recognized: of the asker's name, and of how long the path is and how it ends, so that a long path takes no longer
-/// than others.
+/// A number by which a question is recognized: of the asker's name, of how long the path is, and of how it begins and ends, so that a long path
+/// takes no longer than others. Where two questions share one, no more is remembered for the later one; no answer depends on it.
 pub fn fingerprint(who: &[u8], path: &[u8]) -> u32 {
-    let (_, end) = path.split_at(path.len().saturating_sub(MOST_PRINTED));
+    let (beginning, rest) = path.split_at(path.len().min(MOST_PRINTED));
+    let (_, end) = rest.split_at(rest.len().saturating_sub(MOST_PRINTED));
     let print = with_bytes(0x811c_9dc5, who);
     let print = with_number(print, (path.len() % 65_536) as u32);
+    let print = with_bytes(print, beginning);
     with_bytes(print, end)
 }
 
-// A fingerprint continued with some bytes.
+// A fingerprint continued with some bytes, four at a time.
 fn with_bytes(print: u32, bytes: &[u8]) -> u32 {
     let mut print = print;
-    for byte in bytes {
+    let mut rest = bytes;
+    while let [first, second, third, fourth, more @ ..] = rest {
+        let word = u32::from_le_bytes([*first, *second, *third, *fourth]);
+        print = with_number(print, word);
+        rest = more;
+    }
+    for byte in rest {
         print = with_number(print, u32::from(*byte));
     }
     print
 }
 
-// A fingerprint continued with a number.
+// A fingerprint continued with a number. The turn brings the upper half of the product, on which every bit of the number has an effect, to the bits
+// that choose a place.
 fn with_number(print: u32, number: u32) -> u32 {
-    (print ^ number).wrapping_mul(0x0100_0193)
+    (print ^ number).wrapping_mul(0x9e37_79b1).rotate_left(15)
 }
 
 // The index at which a fingerprint is kept.
