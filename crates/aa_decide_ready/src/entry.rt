@@ -115,6 +115,11 @@ impl Entry {
         self.ready.remember(alloc, child, path)
     }
 
+    /// How many bytes what is remembered takes (`Ready::remembered_bytes`).
+    pub fn remembered_bytes(&self, child: Option<usize>) -> usize {
+        self.ready.remembered_bytes(child)
+    }
+
     /// Forgets what was remembered for the profile, or for its child or hat at an index, and frees its memory.
     pub fn forget(&mut self, alloc: Global, child: Option<usize>)
         ensures { self.new ≡ self.old }

@@ -317,6 +317,14 @@ impl Part {
         self.remember_made(alloc, path)
     }
 
+    /// How many bytes what is remembered takes.
+    pub fn remembered_bytes(&self) -> usize {
+        match &self.files {
+            None => 0,
+            Some(files) => files.automaton.remembered_bytes(),
+        }
+    }
+
     /// Forgets what was remembered.
     pub fn forget(&mut self, alloc: Global)
         ensures { self.new ≡ self.old }

@@ -108,6 +108,14 @@ impl Ready {
         }
     }
 
+    /// How many bytes what is remembered takes, for the profile or for its child or hat at an index. It takes no memory; `O(1)`.
+    pub fn remembered_bytes(&self, child: Option<usize>) -> usize {
+        match self.part_at(child) {
+            None => 0,
+            Some(part) => part.remembered_bytes(),
+        }
+    }
+
     /// Forgets what was remembered for the profile, or for its child or hat at an index, and frees its memory.
     pub fn forget(&mut self, alloc: Global, child: Option<usize>)
         ensures { self.new ≡ self.old }

@@ -156,6 +156,14 @@ impl Automaton {
         }
     }
 
+    /// How many bytes what is remembered takes (`remember`). It takes no memory; `O(1)`.
+    pub fn remembered_bytes(&self) -> usize {
+        match &self.nfa {
+            None => 0,
+            Some(nfa) => nfa.remembered_bytes(),
+        }
+    }
+
     /// Forgets what was remembered, and frees its memory.
     pub fn forget(&mut self, alloc: Global)
         ensures { self.new ≡ self.old }

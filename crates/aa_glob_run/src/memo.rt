@@ -18,6 +18,18 @@ const BUCKETS: usize = 16384;
 // How many of the moves that were looked for in vain are kept at once.
 const MOST_MISSED: usize = 4096;
 
+// How many bytes a list takes beside its states and its row.
+const LIST_BYTES: usize = 24;
+
+// How many bytes a state in a list takes.
+const STATE_BYTES: usize = 4;
+
+// How many bytes a move in a row takes.
+const MOVE_BYTES: usize = 2;
+
+// How many bytes are taken by the buckets and the entries for missed moves.
+const FINDING_BYTES: usize = 49_152;
+
 // The row of a list of which no move is known yet.
 const UNKNOWN_ROW: [u16; 256] = [0; 256];
 
@@ -33,6 +45,8 @@ pub struct Memo {
     missed: Vec<u32>,
     // How many lists weren't remembered.
     turned_away: usize,
+    // How many states the lists have together.
+    states: usize,
 }
 
 // The bucket of a list.
@@ -65,6 +79,7 @@ impl Memo {
             buckets: Vec::new(alloc),
             missed: Vec::new(alloc),
             turned_away: 0,
+            states: 0,
         }
     }
 
@@ -80,6 +95,17 @@ impl Memo {
         ensures { result ≡ false → length (fronts_in self.now) < most_fronts }
     {
         self.fronts.len() >= MOST_FRONTS
+    }
+
+    // How many bytes are taken by lists, their rows, and what finds them, with capacity that isn't used.
+    pub fn bytes(&self) -> usize {
+        let lists = self.fronts.capacity().saturating_mul(LIST_BYTES);
+        let states = self.states.saturating_mul(STATE_BYTES);
+        let rows = self.moves.capacity().saturating_mul(MOVE_BYTES);
+        lists
+            .saturating_add(states)
+            .saturating_add(rows)
+            .saturating_add(FINDING_BYTES)
     }
 
     // The list of a number.
@@ -177,8 +203,12 @@ impl Memo {
         ensures still { OnErr result (self.new.moves.items ≡ self.old.moves.items) }
     {
         self.moves.extend_from_slice(&UNKNOWN_ROW)?;
+        let states = list.len();
         match self.fronts.push(list) {
-            Ok(()) => Ok(()),
+            Ok(()) => {
+                self.states = self.states.saturating_add(states);
+                Ok(())
+            }
             Err(_) => {
                 self.moves.truncate(self.fronts.len() * 256);
                 Err(AllocError)
@@ -235,6 +265,7 @@ impl Memo {
             self.turned_away += 1;
         } else {
             self.turned_away = 0;
+            self.states = 0;
             self.fronts.clear();
             self.moves.clear();
         }

@@ -120,6 +120,11 @@ impl Nfa {
         recall(alloc, &self.tables, text, &mut self.memo).unwrap_or(false)
     }
 
+    /// How many bytes what is remembered takes. It takes no memory; `O(1)`.
+    pub fn remembered_bytes(&self) -> usize {
+        self.memo.bytes()
+    }
+
     /// Forgets what was remembered, and frees its memory.
     pub fn forget(&mut self, alloc: Global)
         ensures { self.new ≡ self.old }

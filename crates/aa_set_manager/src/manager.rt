@@ -1,6 +1,6 @@
 //! The manager: a policy set with its history.
 
-ghost use Rattle.std.specs.Prelude.{◌≡◌, Ok, Err, IfOk, IfErr, OnOk, OnErr, false, length, true, sum};
+ghost use Rattle.std.specs.Prelude.{◌≡◌, ◌≤◌, Ok, Err, IfOk, IfErr, OnOk, OnErr, false, length, true, sum};
 ghost use Rattle.aa_history.specs.SeenMarks.{seen_marks};
 ghost use Rattle.aa_set_answers.specs.Answers.{answered, asks_absent, reply_lines, shown, shows_absent};
 ghost use Rattle.aa_set_manager.specs.Changes.{is_disabled, is_loaded};
@@ -11,6 +11,7 @@ ghost use Rattle.aa_set_commands.specs.declared.refusal.RefusalKind.TheVariants.
 ghost use Rattle.aa_set_answers.specs.List.{list_lines};
 ghost use Rattle.aa_set_manager.specs.Manager.{is_mark_name};
 ghost use Rattle.aa_set_manager.specs.code.Making.{Makes};
+ghost use Rattle.aa_set_parts.specs.Remembered.{most_remembered};
 ghost use Rattle.aa_profile_data.specs.declared.profile.Mode.TheVariants.{Complain, Enforce};
 
 use crate::changes::{adding, disabling, removing, replacing, switching};
@@ -376,9 +377,9 @@ impl Manager {
     }
 
     /// Remembers the states that the asker's rules reach along a question's path, so that the question is answered quicker from now on, and so are
-    /// others as far as they reach the same states together; and makes indices of names and attachments. No answer changes. Runs are remembered for
-    /// at most eight profiles, children and hats: where a ninth asks, what was remembered for the others is forgotten before, and all of it is with
-    /// each change but those of modes. Where memory runs out no more is remembered.
+    /// others as far as they reach the same states together; and makes indices of names and attachments. No answer changes. What is remembered takes
+    /// at most 48 MiB: where it would be more, what is remembered for the one is forgotten for whom nothing was added for the longest time, and all of
+    /// it is with each change but those of modes. Where memory runs out no more is remembered.
     pub fn remember(&mut self, question: &Question<'_>)
         ensures { self.new ≡ self.old }
     {
@@ -393,6 +394,13 @@ impl Manager {
             }
             Question::Cap { .. } | Question::Net { .. } => self.index(false),
         }
+    }
+
+    /// How many bytes are remembered (`remember`), for all profiles, children and hats together. It takes no memory; `O(n)` for n of these.
+    pub fn remembered_bytes(&self) -> usize
+        ensures { result ≤ most_remembered }
+    {
+        self.journal.state().remembered_bytes()
     }
 
     /// Makes an index of the profiles' names, if it is called for more than the first few times since profiles were added, replaced or removed. No

@@ -4,6 +4,7 @@ ghost use Rattle.std.specs.Prelude.{◌≡◌, ◌<◌, ◌≤◌, [], true, OnO
 ghost use Rattle.std.specs.List.{All, list_all};
 ghost use Rattle.aa_decide_ready.specs.Indexes.{HoldSame};
 ghost use Rattle.aa_set_parts.specs.Parts.{after, back, exchanged, is_state, left};
+ghost use Rattle.aa_set_parts.specs.Remembered.{most_remembered};
 ghost use Rattle.aa_set_parts.specs.Slots.{trimmed};
 
 use crate::parts::{Content, Part};
@@ -47,7 +48,9 @@ impl Drop for Slots {
 }
 
 impl Model for Slots {
-    ghost use Rattle.std.specs.Prelude.{List, Option, IfSome};
+    ghost use Rattle.std.specs.Prelude.{◌≤◌, List, Option, IfSome};
+    ghost use Rattle.aa_set_parts.specs.Remembered.{most_remembered};
+    ghost use Rattle.aa_set_parts.specs.code.Askers.{taken};
     ghost use Rattle.aa_decide_ready.specs.Indexes.{IsAttachmentIndexOf, IsNameIndexOf};
     ghost use Rattle.aa_decide_ready.specs.Entries.{Loaded};
 
@@ -57,7 +60,8 @@ impl Model for Slots {
 
     ghost invariant = { λ s.
         IfSome s.names (λ index. IsNameIndexOf index s.slots.items)
-        × IfSome s.attachments (λ index. IsAttachmentIndexOf index s.slots.items) };
+        × IfSome s.attachments (λ index. IsAttachmentIndexOf index s.slots.items)
+        × (taken s.remembered ≤ most_remembered) };
 }
 
 impl Slots {
@@ -169,17 +173,27 @@ impl Slots {
     }
 
     /// Remembers which states are live at the places of a path, for the profile in a slot or for its child or hat at an index (`Entry::remember`),
-    /// for at most eight of them: where a ninth comes, what is remembered for the others is forgotten before. It is kept until the profiles in the
-    /// slots change. Where all of it is remembered now, the question is recognized by its fingerprint (`is_remembered`). Contracts don't see it.
+    /// for all of them together at most `most_remembered` bytes: where it would be more, what is remembered for the one is forgotten for whom nothing
+    /// was added for the longest time. It is kept until the profiles in the slots change. Where all of it is remembered now, the question is
+    /// recognized by its fingerprint (`is_remembered`). Contracts don't see it.
     pub fn remember(&mut self, slot: usize, child: Option<usize>, path: &[u8], fingerprint: u32)
         ensures { self.new ≡ self.old }
     {
+        let warm = Warm { slot, child };
         if slot < self.slots.len()
-            && self.remembered.keep(&mut self.slots, Warm { slot, child })
+            && self.remembered.keep(warm)
             && remember(&mut self.slots[slot], self.alloc, child, path)
         {
             self.remembered.note(fingerprint);
         }
+        self.remembered.settle(&mut self.slots, warm);
+    }
+
+    /// How many bytes are remembered, for all profiles, children and hats together. It takes no memory.
+    pub fn remembered_bytes(&self) -> usize
+        ensures { result ≤ most_remembered }
+    {
+        self.remembered.bytes()
     }
 
     /// Whether no more is to be remembered for the path of a question with this fingerprint. Contracts don't see it.

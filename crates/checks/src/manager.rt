@@ -1,7 +1,7 @@
-//! How many parts the history of a manager has, and its marks.
+//! How many parts the history of a manager has, its marks, and how much it remembers.
 
-use crate::given::files;
-use aa_set::Manager;
+use crate::given::{files, managed};
+use aa_set::{Manager, Question};
 use aa_text::Files;
 use std::alloc::Global;
 
@@ -73,6 +73,44 @@ fn kept_marks(manager: &mut Manager, files: &Files) -> Option<(u128, u128, bool)
 fn keeps_marks(alloc: Global) -> Option<(u128, u128, bool)> {
     let files = files(alloc, &[(b"two", b"profile a { } profile b { }")])?;
     kept_marks(&mut Manager::new(alloc, false), &files)
+}
+
+// Whether more is remembered after a question of a profile.
+fn remembers_more(manager: &mut Manager, who: &[u8]) -> bool {
+    let before = manager.remembered_bytes();
+    manager.remember(&Question::Exec {
+        who,
+        owned: false,
+        path: b"/bin/x",
+    });
+    manager.remembered_bytes() > before
+}
+
+// Whether more is remembered after a question of each of some profiles, with names of one letter.
+fn remembers_for_each(manager: &mut Manager, names: &[u8]) -> bool {
+    for at in 0..names.len() {
+        if !remembers_more(manager, &names[at..at + 1]) {
+            return false;
+        }
+    }
+    true
+}
+
+// What is remembered for one profile stays when another asks, and goes when the profiles change.
+fn remembers(alloc: Global) -> Option<(bool, usize)> {
+    let mut manager = managed(
+        alloc,
+        b"profile a { /bin/* r, } profile b { /bin/* r, } profile c { /bin/* r, } profile d { /bin/* r, } profile e { /bin/* r, } \
+          profile f { /bin/* r, } profile g { /bin/* r, } profile h { /bin/* r, } profile i { /bin/* r, } profile j { /bin/* r, }",
+    )?;
+    let is_more = remembers_for_each(&mut manager, b"abcdefghij");
+    manager.undo(1).ok()?;
+    Some((is_more, manager.remembered_bytes()))
+}
+
+#[test]
+fn a_manager_remembers_for_each(rt: HostRuntime) {
+    assert!(rt; remembers(rt.alloc()) == Some((true, 0)));
 }
 
 #[test]

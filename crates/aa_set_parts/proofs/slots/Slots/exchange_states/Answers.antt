@@ -14,4 +14,5 @@ invariant_of-self c =
     let same = c.exchange_all.ensures.same (ap (list_all is_state) c.deref_mut.ensures.value ∙ c.requires.states) in (
       if-some c.self.inside.names _ _ (λ index is. same-names index c.self.inside.slots.items c.exchange_all.new.slots.items same is) c.self.invariant.0,
       if-some c.self.inside.attachments _ _ (λ index is. same-index index c.self.inside.slots.items c.exchange_all.new.slots.items same is) c.self.invariant.1,
+      c.self.invariant.2,
     )
