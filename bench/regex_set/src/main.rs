@@ -24,6 +24,8 @@ const LONG: usize = 65_000;
 const IN_A_FILE: usize = 5_000;
 /// So many long paths there are.
 const LONG_PATHS: usize = 20;
+/// So often a path is asked until aaset has learnt all of it: a move is learnt where it is missed again.
+const ROUNDS: usize = 4;
 
 fn main() {
     if let Err(error) = answer_words() {
@@ -240,19 +242,28 @@ fn ask_set<'a>(set: &RegexSet, paths: impl Iterator<Item = &'a Vec<u8>>) -> f64 
     processor() - before
 }
 
-/// A kind of questions: the paths that are asked in turn, how many times in all, and where aaset's commands are.
+/// A kind of questions: the paths that are asked, and where aaset's commands are that ask each once, each so often that all is learnt, and beside
+/// these as many questions as are measured.
 struct Asked {
     paths: Vec<Vec<u8>>,
     times: usize,
-    warm: bool,
-    commands: String,
+    first: String,
+    learnt: String,
+    again: String,
 }
 
 impl Asked {
-    /// The paths, again and again, as many as are asked.
+    /// The paths, again and again, as many as are measured.
     fn each(&self) -> impl Iterator<Item = &Vec<u8>> {
         self.paths.iter().cycle().take(self.times)
     }
+}
+
+/// Writes the commands of a kind of questions, of which so many are measured once all is learnt; none, where each path is asked once alone.
+fn asked_as(folder: &str, name: &str, added: &[String], paths: Vec<Vec<u8>>, times: usize) -> Result<Asked> {
+    let ask = |part: &str, many: usize| write_commands(&format!("{folder}/{name}.{part}"), added, "ask file p r owner ", paths.iter().cycle().take(many));
+    let (first, learnt, again) = (ask("first", paths.len())?, ask("learnt", ROUNDS * paths.len())?, ask("again", ROUNDS * paths.len() + times)?);
+    Ok(Asked { paths, times, first, learnt, again })
 }
 
 /// The line of the table of questions for the rules of one file.
@@ -266,13 +277,11 @@ fn ask_rules(program: &str, folder: &str, turns: usize, questions: usize, file: 
     let different = all.split_off(WARM);
     let long = long_paths_of(&rules, &mut numbers);
 
-    let mut kinds = Vec::new();
-    for (name, paths, times, warm) in
-        [("warm", all, questions, true), ("different", different, questions, false), ("long", long, LONG_PATHS.max(questions / 200), true)]
-    {
-        let commands = write_commands(&format!("{folder}/{name}"), &added, "ask file p r owner ", paths.iter().cycle().take(times))?;
-        kinds.push(Asked { paths, times, warm, commands });
-    }
+    let kinds = [
+        asked_as(folder, "warm", &added, all, questions)?,
+        asked_as(folder, "different", &added, different, 0)?,
+        asked_as(folder, "long", &added, long, LONG_PATHS.max(questions / 200))?,
+    ];
     let nothing = write_commands(&format!("{folder}/nothing"), &added, "", [].iter())?;
 
     // Both must answer alike, for each letter and each path.
@@ -303,31 +312,26 @@ fn ask_rules(program: &str, folder: &str, turns: usize, questions: usize, file: 
     let asked: usize = kinds.iter().map(|kind| kind.paths.len()).sum();
     eprintln!("{title}: both answer alike, to six letters of each of {asked} paths, of which {matched} match, {matches} times.");
 
-    // Each kind in each turn: aaset, RegexSet to the text's end, RegexSet to a byte that stands for the end.
-    let mut figures = vec![[Vec::new(), Vec::new(), Vec::new()]; kinds.len()];
-    let ended: Vec<Vec<Vec<u8>>> = kinds.iter().map(|kind| kind.paths.iter().map(|path| [path, &b"\0"[..]].concat()).collect()).collect();
+    // Each kind in each turn: what is asked for the first time, of aaset and of RegexSet, and what is learnt.
+    let mut figures = vec![[Vec::new(), Vec::new(), Vec::new(), Vec::new()]; kinds.len()];
     for _ in 0..turns {
-        let (base, _) = run(&[program, file], &nothing, false)?;
-        for (at, kind) in kinds.iter().enumerate() {
-            let (took, _) = run(&[program, file], &kind.commands, false)?;
-            figures[at][0].push((took - base).max(0.0) / kind.times as f64);
-
+        let took = |commands: &str| -> Result<f64> { Ok(run(&[program, file], commands, false)?.0) };
+        let base = took(&nothing)?;
+        for (kind, figures) in kinds.iter().zip(&mut figures) {
             let set = set_of(rules.iter().map(|rule| &rule.pattern), "$")?;
-            if kind.warm {
-                ask_set(&set, kind.paths.iter());
+            figures[0].push((took(&kind.first)? - base).max(0.0) / kind.paths.len() as f64);
+            figures[1].push(ask_set(&set, kind.paths.iter()) / kind.paths.len() as f64);
+            if kind.times > 0 {
+                let learnt = took(&kind.learnt)?;
+                figures[2].push((took(&kind.again)? - learnt).max(0.0) / kind.times as f64);
+                figures[3].push(ask_set(&set, kind.each()) / kind.times as f64);
             }
-            figures[at][1].push(ask_set(&set, kind.each()) / kind.times as f64);
-
-            let set = set_of(rules.iter().map(|rule| &rule.pattern), "\\x00")?;
-            if kind.warm {
-                ask_set(&set, ended[at].iter());
-            }
-            figures[at][2].push(ask_set(&set, ended[at].iter().cycle().take(kind.times)) / kind.times as f64);
         }
     }
     let kind = title.split(',').next().unwrap_or(&title);
-    print!("| {kind} | {} | {} |", whole(rules.len()), whole(rules.iter().map(|rule| rule.pattern.text.len()).sum()));
-    for figure in figures.iter().flatten() {
+    print!("| {kind} | {} |", whole(rules.len()));
+    let [warm, different, long] = figures.as_slice() else { unreachable!() };
+    for figure in [&warm[2..], &warm[..2], &different[..2], &long[2..], &long[..2]].into_iter().flatten() {
         print!(" {} |", digits(median(figure) * 1e6));
     }
     println!();

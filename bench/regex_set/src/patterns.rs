@@ -20,9 +20,8 @@ enum Item {
     Group(Vec<Vec<Item>>),
 }
 
-/// A pattern with its text.
+/// A pattern, as its items.
 pub struct Pattern {
-    pub text: String,
     items: Vec<Item>,
 }
 
@@ -34,7 +33,7 @@ impl Pattern {
         if at != text.len() {
             return Err(format!("a brace closes no group: {text}").into());
         }
-        Ok(Pattern { text: text.to_string(), items })
+        Ok(Pattern { items })
     }
 
     /// The regex of the texts that the pattern matches, without what anchors it.
