@@ -1,20 +1,16 @@
 -- What changes is counted.
 use Rattle.std.proofs.Common.{◌≡◌, ℕ, ◌+◌, ◌==◌, Bool, true, false, not, cond, List, [], ◌∷◌, ◌++◌, codes, filter, flat_map, length, length-append, Option, None, Some, is_none, refl, sym, ap, ◌∙◌, arith}
 use Rattle.std.proofs.Math.Dec.{eqb-suc-zero}
-use Rattle.serde_json.specs.Data.{object}
-use Rattle.serde_json.specs.Written.{compact_text}
-use Rattle.aa_bytes.specs.Bytes.{line_feed}
 use Rattle.aa_bytes.specs.Texts.{is_empty}
 use Rattle.aa_explain_diff.specs.Features.{Feature}
-use Rattle.aatry_changes.proofs.ToldLemmas.{AreReal, begun, filled, folded-told, headed-told}
+use Rattle.aatry_changes.proofs.ToldLemmas.{AreReal, begun, folded-told, headed-told, told-some}
 use Rattle.aatry_changes.specs.Changes.{change_lines, gone_word}
 use Rattle.aatry_changes.specs.PartChanges.{OfChanged, OfGone, OfNew, PartChange, alone, changed_by, changed_count, differ, is_gone_or_changed}
 use Rattle.aatry_changes.specs.PartChanges.{is_gone_or_changed_by, is_new, new_change, new_change_by, old_change, old_change_by, part_changes}
-use Rattle.aatry_changes.specs.Stat.{stat_change, stat_lines, stat_record}
+use Rattle.aatry_changes.specs.Stat.{stat_change, stat_lines}
 use Rattle.aatry_policy.specs.FolderParts.{FolderParts}
 use Rattle.aatry_policy.specs.Parts.{Part, part_of}
 use Rattle.aatry_report.specs.declared.form.Form.{Form}
-use Rattle.aatry_report.specs.declared.form.Form.TheVariants.{Lines, Records}
 use Rattle.aatry_uncertain.specs.LeftOutHeads.{LeftOutHead}
 
 -- one, or none
@@ -129,9 +125,7 @@ some-told form heads old new =
 stat-told : (form : Form) (heads : List LeftOutHead) (change : PartChange) → is_empty (stat_change form heads change) ≡ false
 stat-told form heads (OfGone part) = headed-told form (gone_word heads part.name) part.name
 stat-told form heads (OfNew part) = headed-told form (codes "new") part.name
-stat-told Lines heads (OfChanged part other less more) = refl
-stat-told Records heads (OfChanged part other less more) =
-    filled (compact_text (object (stat_record part.name (length less) (length more)))) (line_feed ∷ []) refl
+stat-told form heads (OfChanged part other less more) = told-some form (codes "changed") _
 
 stats-told : (form : Form) (heads : List LeftOutHead) (changes : List PartChange) → is_empty (flat_map (stat_change form heads) changes) ≡ is_empty changes
 stats-told form heads [] = refl

@@ -1,23 +1,23 @@
 -- Something is told of whatever changes.
 use Rattle.std.proofs.Common.{◌≡◌, ℕ, Bool, true, false, not, ◌&&◌, cond, List, [], ◌∷◌, ◌++◌, codes, flat_map, Option, None, Some, refl, ap, ◌∙◌}
-use Rattle.std.specs.Fmt.{decimal}
-use Rattle.std.specs.Prelude.{length}
 use Rattle.serde_json.specs.Data.{object}
 use Rattle.serde_json.specs.Written.{compact_text}
 use Rattle.aa_bytes.specs.Bytes.{line_feed}
 use Rattle.aa_bytes.specs.Texts.{is_empty}
 use Rattle.aa_explain_diff.specs.Features.{Feature}
-use Rattle.aatry_changes.specs.Changes.{below_text, changed_heading, folded_lines, gone_word, headed, headed_record, told_change}
+use Rattle.aatry_changes.specs.Changes.{below_text, changed_heading, folded_lines, gone_word, headed, told_change}
 use Rattle.aatry_changes.specs.Folded.{groups_of, is_own_change, own_features}
 use Rattle.aatry_changes.specs.PartChanges.{OfChanged, OfGone, OfNew, PartChange, differ}
 use Rattle.aatry_folder.specs.PolicyFiles.{PolicyFiles}
 use Rattle.aatry_policy.specs.FolderParts.{FolderParts}
 use Rattle.aatry_policy.specs.Parts.{Part}
-use Rattle.aatry_report.specs.Shown.{shown}
+use Rattle.aatry_report.specs.Fields.{Said, Text, Words, in_line, told, with_fields}
+use Rattle.aatry_report.specs.Records.{record_of}
 use Rattle.aatry_report.specs.declared.form.Form.{Form}
 use Rattle.aatry_report.specs.declared.form.Form.TheVariants.{Lines, Records}
 use Rattle.aatry_shared.specs.Sharing.{Change, Group, are_several, change_at, is_shared, names_of, same_change}
-use Rattle.aatry_shared.specs.SharedLines.{change_line, files_of, group_text, names_text, shared_lines, shared_record, shared_text, sharers_line}
+use Rattle.aatry_shared.specs.SharedLines.{files_of, group_text, shared_lines, shared_text}
+use Rattle.aatry_shared.specs.Sides.{kind}
 use Rattle.aatry_shared.specs.declared.side.Side.{Side}
 use Rattle.aatry_shared.specs.declared.side.Side.TheVariants.{New, Old}
 use Rattle.aatry_uncertain.specs.LeftOutHeads.{LeftOutHead}
@@ -40,17 +40,18 @@ and-none : (a b : Bool) → b ≡ false → (a && b) ≡ false
 and-none true b h = h
 and-none false b h = refl
 
+-- a line or a record is something
+pub told-some : (form : Form) (kind : List ℕ) (parts : List Said) → is_empty (told form kind parts) ≡ false
+told-some Lines kind parts = filled (flat_map in_line parts) (line_feed ∷ []) refl
+told-some Records kind parts = filled (compact_text (object (with_fields parts (record_of kind)))) (line_feed ∷ []) refl
+
 -- something stands before the lines of a part
 pub headed-told : (form : Form) (word name : List ℕ) → is_empty (headed form word name) ≡ false
-headed-told Lines word name = filled (word ++ codes ": " ++ shown name) (line_feed ∷ []) refl
-headed-told Records word name = filled (compact_text (object (headed_record word name))) (line_feed ∷ []) refl
+headed-told form word name = told-some form word (Words word ∷ Words (codes ": ") ∷ Text (codes "name") name ∷ [])
 
 -- something is told of a change that several have
 shared-told : (form : Form) (below : PolicyFiles) (group : Group) → is_empty (shared_text form below group) ≡ false
-shared-told Lines below group =
-    filled (change_line below group.change) (sharers_line group.names)
-    (filled (codes "  in " ++ decimal (length group.names) ++ codes " profiles: " ++ names_text group.names) (line_feed ∷ []) refl)
-shared-told Records below group = filled (compact_text (object (shared_record below group))) (line_feed ∷ []) refl
+shared-told form below group = told-some form (kind group.change.side) _
 
 module _ (form : Form) (old new : PolicyFiles) where
   -- where a change is shared, something is told of what is

@@ -1,14 +1,11 @@
 -- The report on a change of policy (docs/aatry.md).
 use Rattle.std.specs.Prelude.{ℕ, if◌then◌else◌, List, [], ◌∷◌, ◌++◌, codes, flat_map}
-use Rattle.serde_json.specs.Data.{Members}
-use Rattle.aa_bytes.specs.Bytes.{line_feed}
 use Rattle.aa_explain_diff.specs.Features.{Feature}
 use Rattle.aatry_changes.specs.Folded.{groups_of, own_features}
 use Rattle.aatry_changes.specs.PartChanges.{OfChanged, OfGone, OfNew, PartChange, differ, part_changes}
 use Rattle.aatry_policy.specs.FolderParts.{FolderParts}
 use Rattle.aatry_policy.specs.Parts.{Part}
-use Rattle.aatry_report.specs.Records.{record_line, record_of, with_text}
-use Rattle.aatry_report.specs.Shown.{shown}
+use Rattle.aatry_report.specs.Fields.{Text, Words, told}
 use Rattle.aatry_report.specs.declared.form.Form.{Form}
 use Rattle.aatry_report.specs.declared.form.Form.TheVariants.{Lines, Records}
 use Rattle.aatry_shared.specs.Differing.{told_lines}
@@ -17,18 +14,9 @@ use Rattle.aatry_shared.specs.Sharing.{Group}
 use Rattle.aatry_shared.specs.declared.side.Side.TheVariants.{New, Old}
 use Rattle.aatry_uncertain.specs.LeftOutHeads.{LeftOutHead, has_name}
 
--- the line of a part: a word, and its full name
-abbrev pub headed_line : List ℕ → List ℕ → List ℕ
-headed_line word name = word ++ codes ": " ++ shown name ++ line_feed ∷ []
-
--- the record of a part: a word, which is its kind, and its full name
-abbrev pub headed_record : List ℕ → List ℕ → Members
-headed_record word name = with_text (codes "name") name (record_of word)
-
--- the heading of a part
+-- the heading of a part: a word, which is its kind, and its full name
 abbrev pub headed : Form → List ℕ → List ℕ → List ℕ
-headed Lines word name = headed_line word name
-headed Records word name = record_line (headed_record word name)
+headed form word name = told form word (Words word ∷ Words (codes ": ") ∷ Text (codes "name") name ∷ [])
 
 -- The heading of a changed part, by the features that it has by itself: no line where it has none, since then each change that it shares names it.
 abbrev pub changed_heading : Form → List ℕ → List Feature → List Feature → List ℕ

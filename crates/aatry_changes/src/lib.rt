@@ -11,7 +11,7 @@ mod stat;
 
 pub use changes::push_changes;
 pub use compared::Compared;
-pub use headed::{headed_record, push_gone, push_headed};
+pub use headed::{push_gone, push_headed};
 pub use laws::{
     what_is_counted_is_told, what_is_folded_is_told, what_is_not_told_answers_alike,
     when_nothing_is_told,

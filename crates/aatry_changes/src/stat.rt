@@ -2,46 +2,18 @@
 
 ghost use Rattle.std.specs.Prelude.{◌≡◌, ◌++◌, IfOk, OnOk, flat_map};
 ghost use Rattle.aatry_changes.specs.PartChanges.{changed_count, seen_change, seen_changes};
-ghost use Rattle.aatry_changes.specs.Stat.{stat_change, stat_changed, stat_line, stat_lines, stat_record};
+ghost use Rattle.aatry_changes.specs.Stat.{stat_change, stat_changed, stat_lines};
 ghost use Rattle.aatry_policy.specs.FolderParts.{seen_folder};
-ghost use Rattle.aatry_report.specs.SeenRecord.{seen_record};
 ghost use Rattle.aatry_uncertain.specs.SeenHeads.{all_left_out};
 
 use crate::compared::Compared;
-use crate::headed::{headed_record, push_gone, push_headed};
+use crate::headed::{push_gone, push_headed};
 use crate::part_changes::{PartChange, part_changes};
-use aatry_report::{Form, Record, Teller, push_number, push_shown};
+use aatry_report::{Field, Teller, tell};
 use aatry_uncertain::LeftOutHeads;
-use std::alloc::{AllocError, Global};
+use std::alloc::AllocError;
 
-// Appends the line of a changed part to a text, by how many lines only the old one and only the new one have.
-fn push_stat_line(
-    name: &[u8],
-    less: usize,
-    more: usize,
-    out: &mut Vec<u8>,
-) -> Result<(), AllocError>
-    ensures { OnOk result (out.new.items ≡ out.old.items ++ stat_line name.now less more) }
-{
-    out.extend_from_slice(b"changed: ")?;
-    push_shown(out, name)?;
-    push_number(out, " (-", less)?;
-    push_number(out, " +", more)?;
-    out.extend_from_slice(b")\n")?;
-    Ok(())
-}
-
-// The record of a changed part, by how many lines only the old one and only the new one have.
-fn stat_record(alloc: Global, name: &[u8], less: usize, more: usize) -> Result<Record, AllocError>
-    ensures { IfOk result (λ made. seen_record made ≡ stat_record name.now less more) }
-{
-    let mut made = headed_record(alloc, "changed", name)?;
-    made.put_number(alloc, "less", less)?;
-    made.put_number(alloc, "more", more)?;
-    Ok(made)
-}
-
-// Appends the counts of a changed part to a text.
+// Appends how much a part differs to a text, by how many lines only the old one and only the new one have.
 fn push_stat_changed(
     teller: Teller,
     name: &[u8],
@@ -51,10 +23,20 @@ fn push_stat_changed(
 ) -> Result<(), AllocError>
     ensures { OnOk result (out.new.items ≡ out.old.items ++ stat_changed teller.form name.now less more) }
 {
-    match teller.form {
-        Form::Lines => push_stat_line(name, less, more, out),
-        Form::Records => stat_record(teller.alloc, name, less, more)?.push(teller.alloc, out),
-    }
+    tell(
+        teller,
+        "changed",
+        &[
+            Field::Words("changed: "),
+            Field::Text("name", name),
+            Field::Words(" (-"),
+            Field::Number("less", less),
+            Field::Words(" +"),
+            Field::Number("more", more),
+            Field::Words(")"),
+        ],
+        out,
+    )
 }
 
 // Appends how much changes of a part to a text.

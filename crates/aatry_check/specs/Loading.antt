@@ -1,16 +1,12 @@
 -- The report on how a file is loaded.
 use Rattle.std.specs.Prelude.{ℕ, List, [], ◌∷◌, ◌++◌, codes, if◌then◌else◌}
 use Rattle.std.specs.Str.{bytes_eq}
-use Rattle.serde_json.specs.Data.{Members}
-use Rattle.aa_bytes.specs.Bytes.{line_feed}
 use Rattle.aatry_folder.specs.Loadings.{TopFile}
 use Rattle.aatry_folder.specs.declared.loading.Loading.{Loading}
 use Rattle.aatry_folder.specs.declared.loading.Loading.TheVariants.{ByFlags, Disable, ForceComplain}
 use Rattle.aatry_report.specs.FilePlaces.{path_below}
-use Rattle.aatry_report.specs.Records.{record_line, record_of, with_text}
-use Rattle.aatry_report.specs.Shown.{shown}
+use Rattle.aatry_report.specs.Fields.{Text, Word, Words, told}
 use Rattle.aatry_report.specs.declared.form.Form.{Form}
-use Rattle.aatry_report.specs.declared.form.Form.TheVariants.{Lines, Records}
 
 -- how the file of a name is loaded, by the files at the top of the folder: any other is loaded by its flags
 abbrev pub loading_in : List TopFile → List ℕ → Loading
@@ -29,19 +25,11 @@ cause_of ByFlags = []
 cause_of ForceComplain = codes "force-complain/"
 cause_of Disable = codes "disable/"
 
--- the line on how a file is loaded, by its path and the cause
-abbrev pub loading_text : List ℕ → Loading → List ℕ → List ℕ
-loading_text path loading cause = shown path ++ codes ": " ++ state_word loading ++ codes ", by " ++ shown cause ++ line_feed ∷ []
-
--- the record of how a file is loaded
-abbrev pub loading_record : List ℕ → Loading → List ℕ → Members
-loading_record path loading cause =
-    with_text (codes "by") cause (with_text (codes "state") (state_word loading) (with_text (codes "file") path (record_of (codes "loading"))))
-
--- the line or the record of how a file is loaded
+-- how a file is loaded, by its path and the cause
 abbrev pub loading_told : Form → List ℕ → Loading → List ℕ → List ℕ
-loading_told Lines path loading cause = loading_text path loading cause
-loading_told Records path loading cause = record_line (loading_record path loading cause)
+loading_told form path loading cause =
+    told form (codes "loading")
+    (Text (codes "file") path ∷ Words (codes ": ") ∷ Word (codes "state") (state_word loading) ∷ Words (codes ", by ") ∷ Text (codes "by") cause ∷ [])
 
 -- the report on how a file is loaded: nothing where it is by its flags
 abbrev pub told_loading : Form → List ℕ → List ℕ → Loading → List ℕ

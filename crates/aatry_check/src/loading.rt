@@ -1,13 +1,12 @@
 //! The report on how a file is loaded.
 
 ghost use Rattle.std.specs.Prelude.{◌≡◌, ◌++◌, IfOk, OnOk, map};
-ghost use Rattle.aatry_check.specs.Loading.{cause_of, loading_in, loading_record, loading_text, state_word, told_loading};
+ghost use Rattle.aatry_check.specs.Loading.{cause_of, loading_in, loading_told, state_word, told_loading};
 ghost use Rattle.aatry_folder.specs.Loadings.{seen_top};
 ghost use Rattle.aatry_report.specs.FilePlaces.{path_below};
-ghost use Rattle.aatry_report.specs.SeenRecord.{seen_record};
 
 use aatry_folder::{Loading, TopFile};
-use aatry_report::{Form, Record, Teller, path_below, push_shown};
+use aatry_report::{Field, Teller, path_below, tell};
 use std::alloc::{AllocError, Global};
 
 /// How a file of a name is loaded: like the first file of that name at the top, and by its flags where none has the name. `O(n)` in the number of
@@ -57,38 +56,28 @@ fn cause_name(alloc: Global, loading: Loading, name: &[u8]) -> Result<Vec<u8>, A
     Ok(cause)
 }
 
-// Appends the line on how a file is loaded to a text, by its path and the cause.
-fn push_line(
+// Appends how a file is loaded to a text, by its path and the cause.
+fn push_state<'x>(
+    teller: Teller,
+    path: &'x [u8],
+    loading: Loading,
+    cause: &'x [u8],
     out: &mut Vec<u8>,
-    path: &[u8],
-    loading: Loading,
-    cause: &[u8],
 ) -> Result<(), AllocError>
-    ensures { OnOk result (out.new.items ≡ out.old.items ++ loading_text path.now loading cause.now) }
+    ensures { OnOk result (out.new.items ≡ out.old.items ++ loading_told teller.form path.now loading cause.now) }
 {
-    push_shown(out, path)?;
-    out.extend_from_slice(b": ")?;
-    out.extend_from_slice(state_word(loading).as_bytes())?;
-    out.extend_from_slice(b", by ")?;
-    push_shown(out, cause)?;
-    out.push(b'\n')?;
-    Ok(())
-}
-
-// The record of how a file is loaded.
-fn loading_record(
-    alloc: Global,
-    path: &[u8],
-    loading: Loading,
-    cause: &[u8],
-) -> Result<Record, AllocError>
-    ensures { IfOk result (λ made. seen_record made ≡ loading_record path.now loading cause.now) }
-{
-    let mut made = Record::new(alloc, "loading")?;
-    made.put_text(alloc, "file", path)?;
-    made.put_text(alloc, "state", state_word(loading).as_bytes())?;
-    made.put_text(alloc, "by", cause)?;
-    Ok(made)
+    tell(
+        teller,
+        "loading",
+        &[
+            Field::Text("file", path),
+            Field::Words(": "),
+            Field::Word("state", state_word(loading)),
+            Field::Words(", by "),
+            Field::Text("by", cause),
+        ],
+        out,
+    )
 }
 
 /// Appends how a file is loaded to a text, with the cause, where it isn't by its flags.
@@ -110,10 +99,5 @@ pub fn push_loading(
     }
     let path = path_below(teller.alloc, base, name)?;
     let cause = cause_name(teller.alloc, loading, name)?;
-    match teller.form {
-        Form::Lines => push_line(out, &path, loading, &cause),
-        Form::Records => {
-            loading_record(teller.alloc, &path, loading, &cause)?.push(teller.alloc, out)
-        }
-    }
+    push_state(teller, &path, loading, &cause, out)
 }

@@ -3,15 +3,14 @@
 ghost use Rattle.std.specs.Prelude.{◌≡◌, ◌≤◌, ◌++◌, IfOk, OnOk, count_by, length, map};
 ghost use Rattle.std.specs.List.{sum_by};
 ghost use Rattle.aatry_check_rules.specs.Finding.{is_absent, is_many, seen_found};
-ghost use Rattle.aatry_check_rules.specs.Summary.{counts_of, idle_words, share, summary_by, summary_line, summary_record, summary_text, told_in, told_words, tried_in};
+ghost use Rattle.aatry_check_rules.specs.Summary.{counts_of, summary_by, summary_text, told_in, tried_in};
 ghost use Rattle.aatry_policy.specs.SeenProfiles.{seen_part};
-ghost use Rattle.aatry_report.specs.SeenRecord.{seen_record};
 
 use crate::finding::{Found, is_absent, is_many};
 use crate::telling::{decide_word, rules_word};
 use aatry_policy::Part;
-use aatry_report::{Form, Record, Teller, push_number};
-use std::alloc::{AllocError, Global};
+use aatry_report::{Field, Teller, tell};
+use std::alloc::AllocError;
 
 /// The counts of the summary.
 #[derive(Clone, Copy)]
@@ -135,76 +134,27 @@ fn counts_of(
     })
 }
 
-// Appends how many there are of something to a text, where there are some.
-fn push_share(count: usize, words: &str, out: &mut Vec<u8>) -> Result<(), AllocError>
-    ensures { OnOk result (out.new.items ≡ out.old.items ++ share count words.now) }
-{
-    if count == 0 {
-        return Ok(());
-    }
-    push_number(out, ", ", count)?;
-    out.extend_from_slice(words.as_bytes())?;
-    Ok(())
-}
-
-// Appends how many parts there are to a text, and how many rules decide nothing, of those that were tried.
-#[tactic(auto, unfolding(crate::specs::Summary::told_words))]
-fn push_told(all: usize, told: usize, tried: usize, out: &mut Vec<u8>) -> Result<(), AllocError>
-    ensures { OnOk result (out.new.items ≡ out.old.items ++ told_words all told tried) }
-{
-    push_number(out, "", all)?;
-    push_number(out, " profiles, children and hats: ", told)?;
-    out.extend_from_slice(rules_word(told).as_bytes())?;
-    push_number(out, " of ", tried)?;
-    out.extend_from_slice(decide_word(told).as_bytes())?;
-    Ok(())
-}
-
-// The same, and how many profiles no path is attached to, where there are such.
-#[tactic(auto, unfolding(crate::specs::Summary::idle_words))]
-fn push_idle(counts: Counts, out: &mut Vec<u8>) -> Result<(), AllocError>
-    ensures { OnOk result (out.new.items ≡ out.old.items ++ idle_words counts) }
-{
-    push_told(counts.all, counts.told, counts.tried, out)?;
-    push_share(counts.unattached, " unattached", out)?;
-    Ok(())
-}
-
-// Appends the summary to a text as a line.
-#[tactic(auto, unfolding(crate::specs::Summary::summary_line))]
-fn push_line(counts: Counts, out: &mut Vec<u8>) -> Result<(), AllocError>
-    ensures { OnOk result (out.new.items ≡ out.old.items ++ summary_line counts) }
-{
-    push_idle(counts, out)?;
-    push_share(counts.many, " too many", out)?;
-    push_share(counts.absent, " absent", out)?;
-    out.push(b'\n')?;
-    Ok(())
-}
-
-// The summary as a record.
-#[tactic(auto, unfolding(crate::specs::Summary::summary_record))]
-fn summary_record(alloc: Global, counts: Counts) -> Result<Record, AllocError>
-    ensures { IfOk result (λ made. seen_record made ≡ summary_record counts) }
-{
-    let mut made = Record::new(alloc, "summary")?;
-    made.put_number(alloc, "all", counts.all)?;
-    made.put_number(alloc, "redundant", counts.told)?;
-    made.put_number(alloc, "tried", counts.tried)?;
-    made.put_number(alloc, "too_many", counts.many)?;
-    made.put_number(alloc, "unattached", counts.unattached)?;
-    made.put_number(alloc, "absent", counts.absent)?;
-    Ok(made)
-}
-
 // Appends the summary to a text, by its counts.
 fn push_counts(teller: Teller, counts: Counts, out: &mut Vec<u8>) -> Result<(), AllocError>
     ensures { OnOk result (out.new.items ≡ out.old.items ++ summary_by teller.form counts) }
 {
-    match teller.form {
-        Form::Lines => push_line(counts, out),
-        Form::Records => summary_record(teller.alloc, counts)?.push(teller.alloc, out),
-    }
+    tell(
+        teller,
+        "summary",
+        &[
+            Field::Number("all", counts.all),
+            Field::Words(" profiles, children and hats: "),
+            Field::Number("redundant", counts.told),
+            Field::Words(rules_word(counts.told)),
+            Field::Words(" of "),
+            Field::Number("tried", counts.tried),
+            Field::Words(decide_word(counts.told)),
+            Field::Share("unattached", counts.unattached, " unattached"),
+            Field::Share("too_many", counts.many, " too many"),
+            Field::Share("absent", counts.absent, " absent"),
+        ],
+        out,
+    )
 }
 
 /// Appends the summary to a text: how many parts were looked at, how many of their written rules decide nothing, of how many that were tried, how

@@ -2,16 +2,15 @@
 
 ghost use Rattle.std.specs.Prelude.{◌≡◌, ◌++◌, ◌∷◌, [], OnOk, filter, flat_map, map};
 ghost use Rattle.aatry_check_rules.specs.Finding.{is_absent, seen_found};
-ghost use Rattle.aatry_check_rules.specs.Telling.{absent_line, absent_text, absents_text, all_text, decide_word, found_text, heading_line, heading_text, many_word, part_told, rules_word};
+ghost use Rattle.aatry_check_rules.specs.Telling.{absents_text, all_text, decide_word, found_text, heading_line, heading_text, part_told, rules_word};
 ghost use Rattle.aatry_folder.specs.PolicyFiles.{seen_files};
 ghost use Rattle.aatry_policy.specs.SeenProfiles.{seen_part};
 
 use crate::finding::{Found, RedundantRule, is_absent};
 use crate::rules_told::push_rules;
-use aatry_changes::{headed_record, push_headed};
 use aatry_folder::PolicyFiles;
 use aatry_policy::Part;
-use aatry_report::{Form, Teller, push_number, push_shown};
+use aatry_report::{Field, Form, Teller, push_number, push_shown, tell};
 use aatry_why_lines::Finder;
 use std::alloc::AllocError;
 
@@ -74,16 +73,6 @@ fn push_part(
     push_rules(finder, teller, part, told, out)
 }
 
-// The word for paths that are too many; in records it is a kind.
-fn many_word(form: Form) -> &'static str
-    ensures { result.now ≡ many_word form }
-{
-    match form {
-        Form::Lines => "too many",
-        Form::Records => "too_many",
-    }
-}
-
 // Appends the report on what is found of a part to a text.
 fn push_found(
     finder: &mut Finder<'_>,
@@ -96,7 +85,15 @@ fn push_found(
 {
     let part = found.part;
     match &found.told {
-        None => push_headed(teller, many_word(teller.form), part.name.as_slice(), out),
+        None => tell(
+            teller,
+            "too_many",
+            &[
+                Field::Words("too many: "),
+                Field::Text("name", part.name.as_slice()),
+            ],
+            out,
+        ),
         Some(told) => push_part(finder, teller, part, told, out),
     }
 }
@@ -138,27 +135,6 @@ pub fn push_all(
     push_each(&mut finder, teller, found, out)
 }
 
-// Appends that no profile of a named file is loaded to a text, as a line.
-#[tactic(auto, unfolding(crate::specs::Telling::absent_line))]
-fn push_absent_line(name: &[u8], out: &mut Vec<u8>) -> Result<(), AllocError>
-    ensures { OnOk result (out.new.items ≡ out.old.items ++ absent_line name.now) }
-{
-    out.extend_from_slice(b"absent: no profile is loaded of the file ")?;
-    push_shown(out, name)?;
-    out.push(b'\n')?;
-    Ok(())
-}
-
-// Appends that no profile of a named file is loaded to a text, as a line or a record.
-fn push_absent(teller: Teller, name: &[u8], out: &mut Vec<u8>) -> Result<(), AllocError>
-    ensures { OnOk result (out.new.items ≡ out.old.items ++ absent_text teller.form name.now) }
-{
-    match teller.form {
-        Form::Lines => push_absent_line(name, out),
-        Form::Records => headed_record(teller.alloc, "absent", name)?.push(teller.alloc, out),
-    }
-}
-
 // Appends that no profile of a named file is loaded to a text, if no part is of the file.
 fn push_if_absent(
     teller: Teller,
@@ -168,10 +144,18 @@ fn push_if_absent(
 ) -> Result<(), AllocError>
     ensures { OnOk result (out.new.items ≡ out.old.items ++ absents_text teller.form (map seen_part parts.now) (name.now ∷ [])) }
 {
-    if is_absent(parts, name) {
-        push_absent(teller, name, out)?;
+    if !is_absent(parts, name) {
+        return Ok(());
     }
-    Ok(())
+    tell(
+        teller,
+        "absent",
+        &[
+            Field::Words("absent: no profile is loaded of the file "),
+            Field::Text("name", name),
+        ],
+        out,
+    )
 }
 
 /// Appends the named files of which no part is to a text: since there is no such file at the top of the folder, or it is left out, or has no

@@ -1,65 +1,18 @@
 -- The report on who is asked about (docs/aatry.md, "`aatry never` and `aatry always`").
-use Rattle.std.specs.Prelude.{ℕ, Bool, true, false, not, ◌&&◌, if◌then◌else◌, List, [], ◌++◌, Option, None, Some, codes, flat_map}
+use Rattle.std.specs.Prelude.{ℕ, Bool, true, false, not, ◌&&◌, if◌then◌else◌, List, [], ◌++◌, Option, Some, flat_map}
 use Rattle.std.specs.List.{list_any}
-use Rattle.serde_json.specs.Data.{Members}
-use Rattle.aa_explain_paths.specs.Answers.{Breaking, seen_breaking}
+use Rattle.aa_explain_paths.specs.Answers.{Breaking}
 use Rattle.aa_explain_paths.specs.declared.question.Claim.{Claim}
 use Rattle.aa_explain_paths.specs.declared.question.Claim.TheVariants.{Always, Never}
-use Rattle.aa_explain_paths.specs.declared.question.PathAnswer.{PathAnswer}
-use Rattle.aa_explain_paths.specs.declared.question.PathAnswer.TheVariants.{Fails, Holds, TooMany}
-use Rattle.aa_profile_data.specs.Access.{letters_of}
 use Rattle.aa_profile_data.specs.Request.{ForFile}
-use Rattle.aa_profile_data.specs.declared.profile.Mode.{Mode}
-use Rattle.aa_profile_data.specs.declared.profile.Mode.TheVariants as mode
 use Rattle.aatry_claims.specs.Claimed.{Claimed, breaking_of}
 use Rattle.aatry_claims.specs.Found.{Found, asks_rules}
-use Rattle.aatry_claims.specs.Sentences.{answer_word, found_line, is_held, is_undecided, owner_word}
-use Rattle.aatry_claims.specs.declared.found.Finding.{Finding}
-use Rattle.aatry_claims.specs.declared.found.Finding.TheVariants.{Absent, ByRules}
+use Rattle.aatry_claims.specs.Sentences.{found_told, is_held, is_undecided}
 use Rattle.aatry_folder.specs.PolicyFiles.{PolicyFiles}
 use Rattle.aatry_policy.specs.Parts.{Part}
-use Rattle.aatry_report.specs.Records.{record_line, record_of, with_number, with_text}
 use Rattle.aatry_report.specs.declared.form.Form.{Form}
-use Rattle.aatry_report.specs.declared.form.Form.TheVariants.{Lines, Records}
 use Rattle.aatry_why_lines.specs.Why.{why_lines}
 use Rattle.aatry_why_lines.specs.Written.{Written}
-
--- the mode in a word, or `disabled`
-abbrev pub mode_word : Option Mode → List ℕ
-mode_word (Some mode.Enforce) = codes "enforce"
-mode_word (Some mode.Complain) = codes "complain"
-mode_word (Some mode.Unconfined) = codes "unconfined"
-mode_word None = codes "disabled"
-
--- the members of a record on a path that breaks the claim
-abbrev pub with_breaking : Breaking → Members → Members
-with_breaking breaking members =
-    with_text (codes "owned") (owner_word breaking.owned) (with_text (codes "letters") (letters_of breaking.letters) (with_text (codes "path") breaking.path members))
-
--- the members on the rules' answer: where the claim holds, how many kinds of paths were looked at
-abbrev pub with_answer : PathAnswer → Members → Members
-with_answer (Holds count) members = with_number (codes "kinds") count members
-with_answer (Fails breaking) members = with_breaking (seen_breaking breaking) members
-with_answer TooMany members = members
-
-abbrev pub with_finding : Finding → Members → Members
-with_finding Absent members = members
-with_finding (ByRules answer) members = with_answer answer members
-
-abbrev pub with_mode : Option Part → Members → Members
-with_mode None members = members
-with_mode (Some part) members = with_text (codes "mode") (mode_word part.section.mode) members
-
--- the record on who was asked about
-unfoldable pub found_record : Claimed → Found → Members
-found_record claimed found =
-    with_mode found.part (with_finding found.finding
-    (with_text (codes "answer") (answer_word claimed.claim found.finding) (with_text (codes "who") found.name (record_of (codes "paths")))))
-
--- the line or record on who was asked about
-abbrev pub found_text : Form → Claimed → Found → List ℕ
-found_text Lines claimed found = found_line claimed found
-found_text Records claimed found = record_line (found_record claimed found)
 
 -- the rules of a part, with where they are written
 abbrev pub written_of : PolicyFiles → Part → Written
@@ -92,7 +45,7 @@ rule_lines form below claim part breaking = []
 -- the report on who was asked about, with the rules, unless only names are reported
 abbrev pub told : Form → Bool → PolicyFiles → Claimed → Found → List ℕ
 told form names below claimed found =
-    found_text form claimed found
+    found_told form claimed found
     ++ (if names then [] else rule_lines form below claimed.claim found.part (breaking_of found.finding))
 
 -- the report on all who were asked about

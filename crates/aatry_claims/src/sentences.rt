@@ -1,16 +1,20 @@
-//! The sentences on who is asked about.
+//! What is told of who is asked about.
 
-ghost use Rattle.std.specs.Prelude.{◌≡◌, ◌++◌, OnOk};
+ghost use Rattle.std.specs.Prelude.{◌≡◌, ◌++◌, IfOk, OnOk};
 ghost use Rattle.aa_explain_paths.specs.Answers.{seen_breaking};
+ghost use Rattle.aatry_claims.specs.Found.{seen_found};
 ghost use Rattle.aatry_claims.specs.SeenClaimed.{seen_claimed};
-ghost use Rattle.aatry_claims.specs.Sentences.{answer_word, breaking_between, breaking_may, breaking_sentence, claim_word, holds_between, holds_sentence, holds_which, owner_word, rules_sentence, rules_word, sentence};
+ghost use Rattle.aatry_report.specs.SeenFields.{seen_field};
+ghost use Rattle.aatry_claims.specs.Sentences.{absent_told, breaking_between, breaking_by, breaking_may, breaking_told, breaking_words, claim_word, found_told, holds_between, holds_by, holds_told, holds_which, holds_words, owner_note, owner_word};
 
 use crate::breaking::Claimed;
-use crate::found::Finding;
+use crate::found::{Finding, Found};
 use crate::letters::push_letter_words;
+use crate::modes::{mode_field, mode_note};
 use aa_explain_paths::{Breaking, Claim, PathAnswer};
-use aatry_report::{push_number, push_shown};
-use std::alloc::AllocError;
+use aa_profile_data::Perms;
+use aatry_report::{Field, Teller, push_shown, tell};
+use std::alloc::{AllocError, Global};
 
 // The word of an answer where the claim holds.
 fn claim_word(claim: Claim) -> &'static str
@@ -22,32 +26,37 @@ fn claim_word(claim: Claim) -> &'static str
     }
 }
 
-// The word of the rules' answer.
-fn rules_word(claim: Claim, answer: &PathAnswer) -> &'static str
-    ensures { result.now ≡ rules_word claim answer.now }
-{
-    match answer {
-        PathAnswer::Holds(_) => claim_word(claim),
-        PathAnswer::Fails(_) => "no",
-        PathAnswer::TooMany => "many",
-    }
-}
-
-/// The word of an answer.
-pub fn answer_word(claim: Claim, finding: &Finding) -> &'static str
-    ensures { result.now ≡ answer_word claim finding.now }
-{
-    match finding {
-        Finding::Absent => "absent",
-        Finding::ByRules(answer) => rules_word(claim, answer),
-    }
-}
-
 /// Whether a file is the task's user's, in a word.
 pub fn owner_word(owned: bool) -> &'static str
     ensures { result.now ≡ owner_word owned }
 {
     if owned { "owner" } else { "other" }
+}
+
+/// Whose file it is, after its path, where it is the task's user's.
+pub fn owner_note(owned: bool) -> &'static str
+    ensures { result.now ≡ owner_note owned }
+{
+    if owned { ", of the owner" } else { "" }
+}
+
+/// Appends that nobody has a name to a text; as a record of the kind `absent`, with the name (`name`).
+///
+/// # Errors
+///
+/// Where memory runs out. A beginning may have been appended then.
+pub fn push_absent(teller: Teller, name: &[u8], out: &mut Vec<u8>) -> Result<(), AllocError>
+    ensures { OnOk result (out.new.items ≡ out.old.items ++ absent_told teller.form name.now) }
+{
+    tell(
+        teller,
+        "absent",
+        &[
+            Field::Words("absent: nobody has the name "),
+            Field::Text("name", name),
+        ],
+        out,
+    )
 }
 
 // The words between letters, where the claim holds.
@@ -70,24 +79,69 @@ fn holds_which(claim: Claim) -> &'static str
     }
 }
 
-// Appends the sentence where the claim holds to a text.
-#[tactic(auto, unfolding(crate::specs::Sentences::holds_sentence))]
+// The words behind the name of one for whom the claim holds, up to how many kinds of paths there are.
+fn holds_words(alloc: Global, claimed: Claimed<'_>) -> Result<Vec<u8>, AllocError>
+    ensures { IfOk result (λ text. text.items ≡ holds_words (seen_claimed claimed.entry)) }
+{
+    let mut text = Vec::from_slice(alloc, b" may ")?;
+    push_letter_words(
+        claimed.words.letters,
+        holds_between(claimed.claim),
+        &mut text,
+    )?;
+    text.extend_from_slice(holds_which(claimed.claim).as_bytes())?;
+    push_shown(&mut text, claimed.words.pattern)?;
+    text.extend_from_slice(b" matches (kinds of paths: ")?;
+    Ok(text)
+}
+
+// Appends that the claim holds for who has a name to a text, and of how many kinds of paths, by the words behind the name.
+#[tactic(auto, unfolding(crate::specs::Sentences::holds_by))]
+fn push_holds_by<'x>(
+    teller: Teller,
+    answer: &'x str,
+    name: &'x [u8],
+    words: &'x [u8],
+    count: usize,
+    note: &'x str,
+    mode: Field<'x>,
+    out: &mut Vec<u8>,
+) -> Result<(), AllocError>
+    ensures { OnOk result (out.new.items
+        ≡ out.old.items ++ holds_by teller.form answer.now name.now words.now count note.now (seen_field mode.entry)) }
+{
+    tell(
+        teller,
+        "paths",
+        &[
+            Field::Word("answer", answer),
+            Field::Words(": "),
+            Field::Text("who", name),
+            Field::Bytes(words),
+            Field::Number("kinds", count),
+            Field::Words(")"),
+            Field::Words(note),
+            mode,
+        ],
+        out,
+    )
+}
+
+// Appends that the claim holds for who is asked about to a text.
 fn push_holds(
+    teller: Teller,
     claimed: Claimed<'_>,
-    name: &[u8],
+    found: &Found<'_>,
     count: usize,
     out: &mut Vec<u8>,
 ) -> Result<(), AllocError>
-    ensures { OnOk result (out.new.items ≡ out.old.items ++ holds_sentence (seen_claimed claimed.entry) name.now count) }
+    ensures { OnOk result (out.new.items ≡ out.old.items ++ holds_told teller.form (seen_claimed claimed.entry) (seen_found found.now) count) }
 {
-    push_shown(out, name)?;
-    out.extend_from_slice(b" may ")?;
-    push_letter_words(claimed.words.letters, holds_between(claimed.claim), out)?;
-    out.extend_from_slice(holds_which(claimed.claim).as_bytes())?;
-    push_shown(out, claimed.words.pattern)?;
-    push_number(out, " matches (kinds of paths: ", count)?;
-    out.extend_from_slice(b")")?;
-    Ok(())
+    let words = holds_words(teller.alloc, claimed)?;
+    let answer = claim_word(claimed.claim);
+    let note = mode_note(found.part);
+    let mode = mode_field(found.part);
+    push_holds_by(teller, answer, found.name, &words, count, note, mode, out)
 }
 
 // The words on what a path that breaks the claim allows, or doesn't allow.
@@ -110,66 +164,124 @@ fn breaking_between(claim: Claim) -> &'static str
     }
 }
 
-// Appends the sentence on a path that breaks the claim to a text.
-#[tactic(auto, unfolding(crate::specs::Sentences::breaking_sentence))]
+// The words before a path that breaks the claim.
+fn breaking_words(alloc: Global, claim: Claim, letters: Perms) -> Result<Vec<u8>, AllocError>
+    ensures { IfOk result (λ text. text.items ≡ breaking_words claim letters.0) }
+{
+    let mut text = Vec::new(alloc);
+    text.extend_from_slice(breaking_may(claim).as_bytes())?;
+    push_letter_words(letters, breaking_between(claim), &mut text)?;
+    text.extend_from_slice(b" ")?;
+    Ok(text)
+}
+
+// Appends a path that breaks the claim for who has a name to a text, by the words between them, whose file it is, and its letters.
+#[tactic(auto, unfolding(crate::specs::Sentences::breaking_by))]
+fn push_breaking_by<'x>(
+    teller: Teller,
+    name: &'x [u8],
+    words: &'x [u8],
+    path: &'x [u8],
+    owned: &'x str,
+    letters: &'x [u8],
+    note: &'x str,
+    mode: Field<'x>,
+    out: &mut Vec<u8>,
+) -> Result<(), AllocError>
+    ensures { OnOk result (out.new.items
+        ≡ out.old.items ++ breaking_by teller.form name.now words.now path.now owned.now letters.now note.now (seen_field mode.entry)) }
+{
+    tell(
+        teller,
+        "paths",
+        &[
+            Field::Word("answer", "no"),
+            Field::Words(": "),
+            Field::Text("who", name),
+            Field::Bytes(words),
+            Field::Text("path", path),
+            Field::Words(" ("),
+            Field::Word("owned", owned),
+            Field::Words(")"),
+            Field::Words(note),
+            Field::Member("letters", letters),
+            mode,
+        ],
+        out,
+    )
+}
+
+// Appends a path that breaks the claim for who is asked about to a text.
 fn push_breaking(
+    teller: Teller,
     claim: Claim,
-    name: &[u8],
+    found: &Found<'_>,
     breaking: &Breaking,
     out: &mut Vec<u8>,
 ) -> Result<(), AllocError>
-    ensures { OnOk result (out.new.items ≡ out.old.items ++ breaking_sentence claim name.now (seen_breaking breaking.now)) }
+    ensures { OnOk result (out.new.items ≡ out.old.items ++ breaking_told teller.form claim (seen_found found.now) (seen_breaking breaking.now)) }
 {
-    push_shown(out, name)?;
-    out.extend_from_slice(breaking_may(claim).as_bytes())?;
-    push_letter_words(breaking.letters, breaking_between(claim), out)?;
-    out.extend_from_slice(b" ")?;
-    push_shown(out, &breaking.path)?;
-    out.extend_from_slice(b" (")?;
-    out.extend_from_slice(owner_word(breaking.owned).as_bytes())?;
-    out.extend_from_slice(b")")?;
-    Ok(())
+    let words = breaking_words(teller.alloc, claim, breaking.letters)?;
+    let mut letters = Vec::new(teller.alloc);
+    breaking.letters.push_letters(&mut letters)?;
+    let owned = owner_word(breaking.owned);
+    let note = mode_note(found.part);
+    let mode = mode_field(found.part);
+    push_breaking_by(
+        teller,
+        found.name,
+        &words,
+        &breaking.path,
+        owned,
+        &letters,
+        note,
+        mode,
+        out,
+    )
 }
 
-// Appends the sentence on the rules' answer to a text.
-#[tactic(auto, unfolding(crate::specs::Sentences::rules_sentence))]
-fn push_by_rules(
-    claimed: Claimed<'_>,
-    name: &[u8],
-    answer: &PathAnswer,
-    out: &mut Vec<u8>,
-) -> Result<(), AllocError>
-    ensures { OnOk result (out.new.items ≡ out.old.items ++ rules_sentence (seen_claimed claimed.entry) name.now answer.now) }
-{
-    match answer {
-        PathAnswer::Holds(count) => push_holds(claimed, name, *count, out),
-        PathAnswer::Fails(breaking) => push_breaking(claimed.claim, name, breaking, out),
-        PathAnswer::TooMany => {
-            push_shown(out, name)?;
-            out.extend_from_slice(b" has too many different paths: see --limit")
-        }
-    }
-}
-
-/// Appends the sentence of a finding to a text.
+/// Appends what is told of who is asked about to a text: the answer in a word, and a sentence. As a record this is of the kind `paths`.
 ///
 /// # Errors
 ///
 /// Where memory runs out. A beginning may have been appended then.
-#[tactic(auto, unfolding(crate::specs::Sentences::sentence))]
-pub fn push_sentence(
+pub fn push_found(
+    teller: Teller,
     claimed: Claimed<'_>,
-    name: &[u8],
-    finding: &Finding,
+    found: &Found<'_>,
     out: &mut Vec<u8>,
 ) -> Result<(), AllocError>
-    ensures { OnOk result (out.new.items ≡ out.old.items ++ sentence (seen_claimed claimed.entry) name.now finding.now) }
+    ensures { OnOk result (out.new.items ≡ out.old.items ++ found_told teller.form (seen_claimed claimed.entry) (seen_found found.now)) }
 {
-    match finding {
-        Finding::Absent => {
-            out.extend_from_slice(b"nobody has the name ")?;
-            push_shown(out, name)
+    match &found.finding {
+        Finding::Absent => tell(
+            teller,
+            "paths",
+            &[
+                Field::Word("answer", "absent"),
+                Field::Words(": nobody has the name "),
+                Field::Text("who", found.name),
+            ],
+            out,
+        ),
+        Finding::ByRules(PathAnswer::Holds(count)) => {
+            push_holds(teller, claimed, found, *count, out)
         }
-        Finding::ByRules(answer) => push_by_rules(claimed, name, answer, out),
+        Finding::ByRules(PathAnswer::Fails(breaking)) => {
+            push_breaking(teller, claimed.claim, found, breaking, out)
+        }
+        Finding::ByRules(PathAnswer::TooMany) => tell(
+            teller,
+            "paths",
+            &[
+                Field::Word("answer", "many"),
+                Field::Words(": "),
+                Field::Text("who", found.name),
+                Field::Words(" has too many different paths: see --limit"),
+                Field::Words(mode_note(found.part)),
+                mode_field(found.part),
+            ],
+            out,
+        ),
     }
 }

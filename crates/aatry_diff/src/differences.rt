@@ -1,88 +1,54 @@
 //! The report on questions whose answers differ between two policy sets.
 
-ghost use Rattle.std.specs.Prelude.{◌≡◌, ◌++◌, IfOk, OnOk};
+ghost use Rattle.std.specs.Prelude.{◌≡◌, ◌++◌, OnOk};
 ghost use Rattle.aa_set_commands.specs.Question.{seen_question};
-ghost use Rattle.aatry_diff.specs.Differences.{causes, difference_text, line_of, question_record, times_text, told_differences};
-ghost use Rattle.aatry_diff.specs.Differences.{told_question, with_answers};
+ghost use Rattle.aatry_diff.specs.Differences.{causes, difference_text, question_told, told_differences, told_question};
 ghost use Rattle.aatry_diff.specs.Folders.{seen_folders};
 ghost use Rattle.aatry_diff.specs.SeenDifferences.{seen_difference, seen_differences};
-ghost use Rattle.aatry_report.specs.SeenRecord.{seen_record};
-ghost use Rattle.aatry_requests.specs.Texts.{question_text};
 
 use crate::finding::Difference;
 use crate::folders::BothFolders;
 use aa_set_commands::Question;
-use aatry_report::{Form, Record, Teller};
-use aatry_requests::{push_number, push_question, rule_request, who_asks};
+use aatry_report::{Field, Teller, tell};
+use aatry_requests::{push_question, push_times, rule_request, who_asks};
 use aatry_shared::push_causes;
-use std::alloc::{AllocError, Global};
+use std::alloc::AllocError;
 
-// Appends how often a question occurred to a text.
-fn push_times(out: &mut Vec<u8>, times: u64) -> Result<(), AllocError>
-    ensures { OnOk result (out.new.items ≡ out.old.items ++ times_text times) }
-{
-    if times == 1 {
-        out.extend_from_slice(b" (once)")
-    } else {
-        out.extend_from_slice(b" (")?;
-        push_number(out, times, b" times)")
-    }
-}
-
-// Appends a sign and an answer to a text.
-fn push_answer(out: &mut Vec<u8>, sign: &[u8], answer: &[u8]) -> Result<(), AllocError>
-    ensures { OnOk result (out.new.items ≡ out.old.items ++ sign.now ++ answer.now) }
-{
-    out.extend_from_slice(sign)?;
-    out.extend_from_slice(answer)
-}
-
-// Appends the line of a question, its answers and how often it occurred to a text.
-fn push_line(out: &mut Vec<u8>, difference: &Difference<'_, '_>) -> Result<(), AllocError>
-    ensures { OnOk result (out.new.items ≡ out.old.items ++ line_of (seen_difference difference.now)) }
-{
-    push_question(out, &difference.tally.question.question())?;
-    push_answer(out, b": ", difference.before.as_slice())?;
-    push_answer(out, b" -> ", difference.after.as_slice())?;
-    push_times(out, difference.tally.times)?;
-    out.push(b'\n')?;
-    Ok(())
-}
-
-// A question as it is printed.
-fn question_text(alloc: Global, question: &Question<'_>) -> Result<Vec<u8>, AllocError>
-    ensures { IfOk result (λ text. text.items ≡ question_text (seen_question question.entry.now)) }
-{
-    let mut text = Vec::new(alloc);
-    push_question(&mut text, question)?;
-    Ok(text)
-}
-
-// Puts the answers to a question and how often it occurred into a record.
-fn put_answers(
-    alloc: Global,
-    difference: &Difference<'_, '_>,
-    into: &mut Record,
+// Appends a question to a text, by the answers before and after, and how often it occurred, in words and as a number.
+fn push_question_told<'x>(
+    teller: Teller,
+    question: &'x [u8],
+    before: &'x [u8],
+    after: &'x [u8],
+    times: &'x [u8],
+    number: usize,
+    out: &mut Vec<u8>,
 ) -> Result<(), AllocError>
-    ensures { OnOk result (seen_record into.new ≡ with_answers (seen_difference difference.now) (seen_record into.old)) }
+    ensures { OnOk result (out.new.items
+        ≡ out.old.items ++ question_told teller.form question.now before.now after.now times.now number) }
 {
-    into.put_text(alloc, "before", difference.before.as_slice())?;
-    into.put_text(alloc, "after", difference.after.as_slice())?;
-    into.put_number(alloc, "times", difference.tally.times as usize)
+    tell(
+        teller,
+        "question",
+        &[
+            Field::Bytes(question),
+            Field::Member("question", question),
+            Field::Words(": "),
+            Field::Bytes(before),
+            Field::Member("before", before),
+            Field::Words(" -> "),
+            Field::Bytes(after),
+            Field::Member("after", after),
+            Field::Words(" ("),
+            Field::Bytes(times),
+            Field::MemberNumber("times", number),
+            Field::Words(")"),
+        ],
+        out,
+    )
 }
 
-// The record of a question, its answers and how often it occurred.
-fn question_record(alloc: Global, difference: &Difference<'_, '_>) -> Result<Record, AllocError>
-    ensures { IfOk result (λ made. seen_record made ≡ question_record (seen_difference difference.now)) }
-{
-    let text = question_text(alloc, &difference.tally.question.question())?;
-    let mut made = Record::new(alloc, "question")?;
-    made.put_text(alloc, "question", &text)?;
-    put_answers(alloc, difference, &mut made)?;
-    Ok(made)
-}
-
-// Appends the line or record of a question to a text.
+// Appends a question, its answers and how often it occurred to a text.
 fn push_told(
     teller: Teller,
     difference: &Difference<'_, '_>,
@@ -90,10 +56,19 @@ fn push_told(
 ) -> Result<(), AllocError>
     ensures { OnOk result (out.new.items ≡ out.old.items ++ told_question teller.form (seen_difference difference.now)) }
 {
-    match teller.form {
-        Form::Lines => push_line(out, difference),
-        Form::Records => question_record(teller.alloc, difference)?.push(teller.alloc, out),
-    }
+    let mut question = Vec::new(teller.alloc);
+    push_question(&mut question, &difference.tally.question.question())?;
+    let mut times = Vec::new(teller.alloc);
+    push_times(&mut times, difference.tally.times)?;
+    push_question_told(
+        teller,
+        &question,
+        difference.before.as_slice(),
+        difference.after.as_slice(),
+        &times,
+        difference.tally.times as usize,
+        out,
+    )
 }
 
 // Appends the rules that lead to only one of the answers to a question to a text.

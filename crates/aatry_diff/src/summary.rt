@@ -23,7 +23,7 @@ pub fn push_summary(
 {
     let share = Share {
         number: differing,
-        words: b" answered otherwise, ",
+        words: " answered otherwise, ",
         name: "differing",
     };
     requests.push_summary(teller, share, out)

@@ -48,7 +48,7 @@ seen_loaded loaded = record {
 }
 
 -- what is told of all that is found, and what sums up
-abbrev pub compared_text : Form → How → List LeftOutHead → FolderParts → FolderParts → List Found → List ℕ
+unfoldable pub compared_text : Form → How → List LeftOutHead → FolderParts → FolderParts → List Found → List ℕ
 compared_text form how heads old new found = all_text form how.stat heads old new found ++ summary_text form (kinds_of found)
 
 -- What is found of those who are compared is right, by the parts of both folders and by their policy sets, and is told behind a text; and it is known whether

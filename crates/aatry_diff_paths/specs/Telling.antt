@@ -1,7 +1,5 @@
 -- What is told of profiles, children and hats of which something is answered otherwise (docs/aatry.md, "`aatry diff --all`").
 use Rattle.std.specs.Prelude.{ℕ, Bool, false, true, ◌==◌, if◌then◌else◌, List, [], ◌∷◌, ◌++◌, codes, flat_map, map, slice_get, Option, None, Some}
-use Rattle.serde_json.specs.Data.{Members}
-use Rattle.aa_bytes.specs.Bytes.{line_feed}
 use Rattle.aa_decide_ready.specs.Entries.{Loaded}
 use Rattle.aa_decide_rules.specs.Answer.{answer_word}
 use Rattle.aa_decide_rules.specs.declared.verdict.Tag.{Tag}
@@ -24,13 +22,12 @@ use Rattle.aa_profile_data.specs.declared.profile.Rule.{Rule}
 use Rattle.aa_profile_data.specs.Capabilities.{capability_name}
 use Rattle.aa_profile_data.specs.Domains.{domain_name}
 use Rattle.aa_profile_data.specs.Kinds.{kind_name}
-use Rattle.aatry_changes.specs.Changes.{gone_text, headed, headed_record}
-use Rattle.aatry_claims.specs.Sentences.{owner_word}
+use Rattle.aatry_changes.specs.Changes.{gone_text, headed}
+use Rattle.aatry_claims.specs.Sentences.{absent_told, owner_note, owner_word}
 use Rattle.aatry_policy.specs.FolderParts.{FolderParts}
 use Rattle.aatry_policy.specs.Parts.{Part}
 use Rattle.aatry_reach.specs.Telling.{place_text}
-use Rattle.aatry_report.specs.Records.{record_line, with_text}
-use Rattle.aatry_report.specs.Shown.{shown}
+use Rattle.aatry_report.specs.Fields.{Bytes, Member, MemberWord, Text, Word, Words, told}
 use Rattle.aatry_report.specs.declared.form.Form.{Form}
 use Rattle.aatry_report.specs.declared.form.Form.TheVariants.{Lines, Records}
 use Rattle.aatry_shared.specs.Differing.{told_lines}
@@ -45,7 +42,6 @@ use Rattle.aatry_path_changes.specs.declared.kinds.Kind.TheVariants as kind
 use Rattle.aatry_path_changes.specs.declared.others.Other.{Other}
 use Rattle.aatry_path_changes.specs.declared.others.Other.TheVariants.{Capability, Sockets}
 use Rattle.aatry_path_changes.specs.declared.others.OtherChange.{OtherChange}
-use Rattle.aatry_diff_paths.specs.declared.told_starts.Places.{Places as CodePlaces}
 
 -- how an answer is logged: not, or by a line, and with which letters of a file
 abbrev pub mask_text : ℕ → List ℕ
@@ -69,42 +65,24 @@ is_otherwise Lost = false
 abbrev pub tells_logs : Answers → Bool
 tells_logs answers = is_otherwise (change_between false answers.old answers.new)
 
--- two answers in a line, and in a record
-unfoldable pub answers_text : Answers → List ℕ
-answers_text answers = codes ": " ++ answer_text (tells_logs answers) answers.old ++ codes " -> " ++ answer_text (tells_logs answers) answers.new ++ line_feed ∷ []
+-- a path on which answers change that a rule takes part in, by its letters, whose file it is, and the answers
+unfoldable pub path_by : Form → (name letters path note owned before after : List ℕ) → List ℕ
+path_by form name letters path note owned before after =
+    told form (codes "path")
+    (Member (codes "name") name ∷ Words (codes "      ") ∷ Bytes letters ∷ Member (codes "letters") letters ∷ Words (codes " of ")
+    ∷ Text (codes "path") path ∷ Words note ∷ MemberWord (codes "owned") owned ∷ Words (codes ": ") ∷ Bytes before ∷ Member (codes "before") before
+    ∷ Words (codes " -> ") ∷ Bytes after ∷ Member (codes "after") after ∷ [])
 
-unfoldable pub with_answers : Answers → Members → Members
-with_answers answers members =
-    with_text (codes "after") (answer_text (tells_logs answers) answers.new) (with_text (codes "before") (answer_text (tells_logs answers) answers.old) members)
+abbrev pub path_told : Form → List ℕ → FileChange → List ℕ
+path_told form name change =
+    let logs = tells_logs change.answers in
+    path_by form name (letters_of change.letters) change.path (owner_note change.owned) (owner_word change.owned)
+    (answer_text logs change.answers.old) (answer_text logs change.answers.new)
 
--- whose file it is, where it is the task's user's
-abbrev pub owner_note : Bool → List ℕ
-owner_note owned = if owned then codes ", of the owner" else []
-
--- a path on which answers change that a rule takes part in
-unfoldable pub path_line : FileChange → List ℕ
-path_line change =
-    codes "      " ++ letters_of change.letters ++ codes " of " ++ shown change.path ++ owner_note change.owned ++ answers_text change.answers
-
-unfoldable pub path_record : List ℕ → FileChange → Members
-path_record name change =
-    with_answers change.answers
-    (with_text (codes "owned") (owner_word change.owned)
-    (with_text (codes "letters") (letters_of change.letters) (with_text (codes "path") change.path (headed_record (codes "path") name))))
-
-abbrev pub path_text : Form → List ℕ → FileChange → List ℕ
-path_text Lines name change = path_line change
-path_text Records name change = record_line (path_record name change)
-
--- there is none
-abbrev pub nothing_text : Form → List ℕ → List ℕ
-nothing_text Lines name = codes "      changes nothing\n"
-nothing_text Records name = record_line (headed_record (codes "nothing") name)
-
--- what is told below a rule
-abbrev pub change_text : Form → List ℕ → Option FileChange → List ℕ
-change_text form name None = nothing_text form name
-change_text form name (Some change) = path_text form name change
+-- what is told below a rule: there may be none
+abbrev pub change_told : Form → List ℕ → Option FileChange → List ℕ
+change_told form name None = told form (codes "nothing") (Member (codes "name") name ∷ Words (codes "      changes nothing") ∷ [])
+change_told form name (Some change) = path_told form name change
 
 -- the rule of a number, as `diff` tells it, where there is one
 abbrev pub rule_line : Form → FolderParts → Part → Side → ℕ → Option Rule → List ℕ
@@ -114,7 +92,7 @@ rule_line form folder part side number (Some rule) = told_lines form folder part
 -- a rule that one side alone has, and what it changes
 abbrev pub rule_text : Form → FolderParts → Part → Side → RuleChange → List ℕ
 rule_text form folder part side change =
-    rule_line form folder part side change.lone.number (slice_get part.section.rules change.lone.number) ++ change_text form part.name change.told
+    rule_line form folder part side change.lone.number (slice_get part.section.rules change.lone.number) ++ change_told form part.name change.told
 
 -- the same of some
 abbrev pub rules_text : Form → FolderParts → Part → Side → List RuleChange → List ℕ
@@ -131,39 +109,39 @@ abbrev pub name_or : Option (List ℕ) → List ℕ
 name_or None = []
 name_or (Some name) = name
 
+-- a capability, and sockets, by the answers
+unfoldable pub capability_by : Form → (name capability before after : List ℕ) → List ℕ
+capability_by form name capability before after =
+    told form (codes "capability")
+    (Member (codes "name") name ∷ Words (codes "  capability ") ∷ Word (codes "capability") capability ∷ Words (codes ": ")
+    ∷ Bytes before ∷ Member (codes "before") before ∷ Words (codes " -> ") ∷ Bytes after ∷ Member (codes "after") after ∷ [])
+
+unfoldable pub sockets_by : Form → (name domain kind before after : List ℕ) → List ℕ
+sockets_by form name domain kind before after =
+    told form (codes "sockets")
+    (Member (codes "name") name ∷ Words (codes "  sockets ") ∷ Word (codes "domain") domain ∷ Words (codes " ") ∷ Word (codes "type") kind
+    ∷ Words (codes ": ") ∷ Bytes before ∷ Member (codes "before") before ∷ Words (codes " -> ") ∷ Bytes after ∷ Member (codes "after") after ∷ [])
+
 -- what is answered otherwise that is no file
-unfoldable pub capability_words : ℕ → List ℕ
-capability_words number = codes "  capability " ++ name_or (capability_name number)
+abbrev pub other_by : Form → List ℕ → Other → (before after : List ℕ) → List ℕ
+other_by form name (Capability number) before after = capability_by form name (name_or (capability_name number)) before after
+other_by form name (Sockets domain kind) before after = sockets_by form name (name_or (domain_name domain)) (name_or (kind_name kind)) before after
 
-abbrev pub other_words : Other → List ℕ
-other_words (Capability number) = capability_words number
-other_words (Sockets domain kind) = codes "  sockets " ++ name_or (domain_name domain) ++ codes " " ++ name_or (kind_name kind)
+abbrev pub other_told : Form → List ℕ → OtherChange → List ℕ
+other_told form name change =
+    let logs = tells_logs change.answers in
+    other_by form name change.other (answer_text logs change.answers.old) (answer_text logs change.answers.new)
 
-abbrev pub other_record : List ℕ → Other → Members
-other_record name (Capability number) = with_text (codes "capability") (name_or (capability_name number)) (headed_record (codes "capability") name)
-other_record name (Sockets domain kind) =
-    with_text (codes "type") (name_or (kind_name kind)) (with_text (codes "domain") (name_or (domain_name domain)) (headed_record (codes "sockets") name))
-
-abbrev pub other_text : Form → List ℕ → OtherChange → List ℕ
-other_text Lines name change = other_words change.other ++ answers_text change.answers
-other_text Records name change = record_line (with_answers change.answers (other_record name change.other))
-
-abbrev pub others_text : Form → List ℕ → List OtherChange → List ℕ
-others_text form name changes = flat_map (other_text form name) changes
+abbrev pub others_told : Form → List ℕ → List OtherChange → List ℕ
+others_told form name changes = flat_map (other_told form name) changes
 
 -- the modes, where they differ
-unfoldable pub mode_line : Option Mode → Option Mode → List ℕ
-mode_line old new = codes "  mode: " ++ state_text old ++ codes " -> " ++ state_text new ++ line_feed ∷ []
-
-unfoldable pub mode_record : List ℕ → Option Mode → Option Mode → Members
-mode_record name old new = with_text (codes "after") (state_text new) (with_text (codes "before") (state_text old) (headed_record (codes "mode") name))
-
-abbrev pub modes_text : Form → List ℕ → Option Mode → Option Mode → List ℕ
-modes_text Lines name old new = mode_line old new
-modes_text Records name old new = record_line (mode_record name old new)
-
-abbrev pub mode_text : Form → List ℕ → Option Mode → Option Mode → List ℕ
-mode_text form name old new = if same_state old new then [] else modes_text form name old new
+abbrev pub mode_told : Form → List ℕ → Option Mode → Option Mode → List ℕ
+mode_told form name old new =
+    if same_state old new then []
+    else told form (codes "mode")
+    (Member (codes "name") name ∷ Words (codes "  mode: ") ∷ Word (codes "before") (state_text old) ∷ Words (codes " -> ")
+    ∷ Word (codes "after") (state_text new) ∷ [])
 
 -- What the start of a program leads to, in words: under what the program runs, and that its environment is scrubbed, where
 -- it is; or that it leads nowhere.
@@ -171,48 +149,29 @@ abbrev pub led_text : List (Option Loaded) → Led → List ℕ
 led_text slots led =
     if leads_somewhere led.to then place_text slots led.to ++ (if led.scrub then codes " scrub" else []) else codes "nowhere"
 
--- where a start leads before and after the change, in words
-pub record StartPlaces : Type 0 where
-  pub before : List ℕ
-  pub after : List ℕ
+-- a start that leads elsewhere, by its path, whose file that is, and where it leads before and after the change
+unfoldable pub start_by : Form → (name path note owned before after : List ℕ) → List ℕ
+start_by form name path note owned before after =
+    told form (codes "start")
+    (Member (codes "name") name ∷ Words (codes "  start of ") ∷ Text (codes "path") path ∷ Words note ∷ MemberWord (codes "owned") owned
+    ∷ Words (codes ": ") ∷ Text (codes "before") before ∷ Words (codes " -> ") ∷ Text (codes "after") after ∷ [])
 
-abbrev pub start_places : Starters → StartChange → StartPlaces
-start_places starters start = record { before = led_text starters.old.slots start.old; after = led_text starters.new.slots start.new }
+abbrev pub start_told : Form → List ℕ → Starters → StartChange → List ℕ
+start_told form name starters start =
+    start_by form name start.path.items (owner_note start.owned) (owner_word start.owned) (led_text starters.old.slots start.old)
+    (led_text starters.new.slots start.new)
 
-abbrev pub seen_places : CodePlaces → StartPlaces
-seen_places places = record { before = places.before.items; after = places.after.items }
-
-abbrev pub places_text : StartPlaces → List ℕ
-places_text places = codes ": " ++ shown places.before ++ codes " -> " ++ shown places.after ++ line_feed ∷ []
-
--- a start that leads elsewhere
-unfoldable pub start_line : StartChange → StartPlaces → List ℕ
-start_line start places = codes "  start of " ++ shown start.path.items ++ owner_note start.owned ++ places_text places
-
-unfoldable pub start_record : List ℕ → StartChange → StartPlaces → Members
-start_record name start places =
-    with_text (codes "after") places.after
-    (with_text (codes "before") places.before
-    (with_text (codes "owned") (owner_word start.owned) (with_text (codes "path") start.path.items (headed_record (codes "start") name))))
-
-abbrev pub start_by : Form → List ℕ → StartChange → StartPlaces → List ℕ
-start_by Lines name start places = start_line start places
-start_by Records name start places = record_line (start_record name start places)
-
-abbrev pub start_text : Form → List ℕ → Starters → StartChange → List ℕ
-start_text form name starters start = start_by form name start (start_places starters start)
-
-abbrev pub starts_text : Form → List ℕ → Starters → Option (List StartChange) → List ℕ
-starts_text form name starters None = []
-starts_text form name starters (Some starts) = flat_map (start_text form name starters) starts
+abbrev pub starts_told : Form → List ℕ → Starters → Option (List StartChange) → List ℕ
+starts_told form name starters None = []
+starts_told form name starters (Some starts) = flat_map (start_told form name starters) starts
 
 -- what is told below the line of parts that both folders have
 unfoldable pub below_text : Form → FolderParts → FolderParts → Both → List ℕ
 below_text form old new both =
-    mode_text form both.part.name both.part.section.mode both.other.section.mode
+    mode_told form both.part.name both.part.section.mode both.other.section.mode
     ++ files_text form old new both.part both.other both.files
-    ++ others_text form both.part.name both.others
-    ++ starts_text form both.part.name both.starters both.starts
+    ++ others_told form both.part.name both.others
+    ++ starts_told form both.part.name both.starters both.starts
 
 -- the word of what is found; in records it is a kind
 abbrev pub many_word : Form → List ℕ
@@ -238,14 +197,9 @@ both_by form stat old new both word =
 abbrev pub both_text : Form → (stat : Bool) → FolderParts → FolderParts → Both → List ℕ
 both_text form stat old new both = both_by form stat old new both (kind_of_both both)
 
--- nobody has a name
-abbrev pub absent_text : Form → List ℕ → List ℕ
-absent_text Lines name = codes "absent: nobody has the name " ++ shown name ++ line_feed ∷ []
-absent_text Records name = record_line (headed_record (codes "absent") name)
-
 -- what is told of a name
 abbrev pub finding_text : Form → (stat : Bool) → List LeftOutHead → FolderParts → FolderParts → List ℕ → Finding → List ℕ
-finding_text form stat heads old new name OfAbsent = absent_text form name
+finding_text form stat heads old new name OfAbsent = absent_told form name
 finding_text form stat heads old new name (OfGone part) = gone_text form heads part
 finding_text form stat heads old new name (OfNew part) = headed form (codes "new") part.name
 finding_text form stat heads old new name (OfBoth both) = both_text form stat old new both

@@ -55,6 +55,7 @@ pub struct Outcome {
 }
 
 // Appends what is told of all that is found to a text, and what sums up.
+#[tactic(auto, unfolding(crate::specs::Below::compared_text))]
 fn push_found(
     teller: Teller,
     asked: Asked,

@@ -1,12 +1,25 @@
 //! What sums up.
 
-ghost use Rattle.std.specs.Prelude.{◌≡◌, ◌++◌, IfOk, OnOk};
-ghost use Rattle.aatry_diff_paths.specs.Summary.{changed_shares, count_of, other_shares, same_count, same_kind, share, share_of, summary_line, summary_record, summary_text, with_count};
-ghost use Rattle.aatry_report.specs.SeenRecord.{seen_record};
+ghost use Rattle.std.specs.Prelude.{◌≡◌, ◌++◌, OnOk};
+ghost use Rattle.aatry_diff_paths.specs.Summary.{count_of, counts_of, same_kind, summary_by, summary_text};
 
 use aatry_path_changes::Kind;
-use aatry_report::{Form, Record, Teller, push_number};
-use std::alloc::{AllocError, Global};
+use aatry_report::{Field, Teller, push_number, tell};
+use std::alloc::AllocError;
+
+// How many have each word.
+#[derive(Clone, Copy)]
+struct Counts {
+    same: usize,
+    wider: usize,
+    narrower: usize,
+    both: usize,
+    otherwise: usize,
+    gone: usize,
+    new: usize,
+    many: usize,
+    absent: usize,
+}
 
 // Whether two words are one.
 fn same_kind(one: Kind, other: Kind) -> bool
@@ -33,104 +46,52 @@ fn count_of(kind: Kind, kinds: &[Kind]) -> usize
     kinds.iter().filter(|it| same_kind(**it, kind)).count()
 }
 
-// Appends how many have a word to a text, where some have.
-fn push_share(count: usize, words: &str, out: &mut Vec<u8>) -> Result<(), AllocError>
-    ensures { OnOk result (out.new.items ≡ out.old.items ++ share count words.now) }
+// How many have each word.
+fn counts_of(kinds: &[Kind]) -> Counts
+    ensures { result ≡ counts_of kinds.now }
 {
-    if count == 0 {
-        return Ok(());
+    Counts {
+        same: count_of(Kind::Same, kinds),
+        wider: count_of(Kind::Wider, kinds),
+        narrower: count_of(Kind::Narrower, kinds),
+        both: count_of(Kind::Both, kinds),
+        otherwise: count_of(Kind::Otherwise, kinds),
+        gone: count_of(Kind::Gone, kinds),
+        new: count_of(Kind::New, kinds),
+        many: count_of(Kind::TooMany, kinds),
+        absent: count_of(Kind::Absent, kinds),
     }
-    push_number(out, ", ", count)?;
-    out.extend_from_slice(words.as_bytes())?;
-    Ok(())
 }
 
-// The same by the words.
-fn push_share_of(
-    kind: Kind,
-    words: &str,
-    kinds: &[Kind],
+// Appends what sums up to a text, by how many there are, in digits, and how many have each word.
+#[tactic(auto, unfolding(crate::specs::Summary::summary_by))]
+fn push_counts(
+    teller: Teller,
+    all: &[u8],
+    counts: Counts,
     out: &mut Vec<u8>,
 ) -> Result<(), AllocError>
-    ensures { OnOk result (out.new.items ≡ out.old.items ++ share_of kind words.now kinds.now) }
+    ensures { OnOk result (out.new.items ≡ out.old.items ++ summary_by teller.form all.now counts) }
 {
-    push_share(count_of(kind, kinds), words, out)
-}
-
-// Appends how many have each word of those whom both folders have, where something is answered otherwise.
-#[tactic(auto, unfolding(crate::specs::Summary::changed_shares))]
-fn push_changed(kinds: &[Kind], out: &mut Vec<u8>) -> Result<(), AllocError>
-    ensures { OnOk result (out.new.items ≡ out.old.items ++ changed_shares kinds.now) }
-{
-    push_share_of(Kind::Wider, " wider", kinds, out)?;
-    push_share_of(Kind::Narrower, " narrower", kinds, out)?;
-    push_share_of(Kind::Both, " both", kinds, out)?;
-    push_share_of(Kind::Otherwise, " otherwise", kinds, out)
-}
-
-// Appends how many have each of the other words.
-#[tactic(auto, unfolding(crate::specs::Summary::other_shares))]
-fn push_others(kinds: &[Kind], out: &mut Vec<u8>) -> Result<(), AllocError>
-    ensures { OnOk result (out.new.items ≡ out.old.items ++ other_shares kinds.now) }
-{
-    push_share_of(Kind::Gone, " gone", kinds, out)?;
-    push_share_of(Kind::New, " new", kinds, out)?;
-    push_share_of(Kind::TooMany, " too many", kinds, out)?;
-    push_share_of(Kind::Absent, " absent", kinds, out)
-}
-
-// Appends how many there are, and how many of these have the first word.
-fn push_same(all: usize, same: usize, out: &mut Vec<u8>) -> Result<(), AllocError>
-    ensures { OnOk result (out.new.items ≡ out.old.items ++ same_count all same) }
-{
-    push_number(out, "", all)?;
-    push_number(out, " profiles, children and hats: ", same)?;
-    out.extend_from_slice(b" the same")?;
-    Ok(())
-}
-
-// Appends what sums up to a text as a line.
-#[tactic(auto, unfolding(crate::specs::Summary::summary_line))]
-fn push_line(kinds: &[Kind], out: &mut Vec<u8>) -> Result<(), AllocError>
-    ensures { OnOk result (out.new.items ≡ out.old.items ++ summary_line kinds.now) }
-{
-    let same = count_of(Kind::Same, kinds);
-    push_same(kinds.len(), same, out)?;
-    push_changed(kinds, out)?;
-    push_others(kinds, out)?;
-    out.push(b'\n')?;
-    Ok(())
-}
-
-// Puts how many have a word into a record.
-fn put_count(
-    alloc: Global,
-    name: &str,
-    kind: Kind,
-    kinds: &[Kind],
-    into: &mut Record,
-) -> Result<(), AllocError>
-    ensures { OnOk result (seen_record into.new ≡ with_count name.now kind kinds.now (seen_record into.old)) }
-{
-    into.put_number(alloc, name, count_of(kind, kinds))
-}
-
-// What sums up, as a record.
-#[tactic(auto, unfolding(crate::specs::Summary::summary_record))]
-fn summary_record(alloc: Global, kinds: &[Kind]) -> Result<Record, AllocError>
-    ensures { IfOk result (λ made. seen_record made ≡ summary_record kinds.now) }
-{
-    let mut made = Record::new(alloc, "summary")?;
-    put_count(alloc, "same", Kind::Same, kinds, &mut made)?;
-    put_count(alloc, "wider", Kind::Wider, kinds, &mut made)?;
-    put_count(alloc, "narrower", Kind::Narrower, kinds, &mut made)?;
-    put_count(alloc, "both", Kind::Both, kinds, &mut made)?;
-    put_count(alloc, "otherwise", Kind::Otherwise, kinds, &mut made)?;
-    put_count(alloc, "gone", Kind::Gone, kinds, &mut made)?;
-    put_count(alloc, "new", Kind::New, kinds, &mut made)?;
-    put_count(alloc, "too_many", Kind::TooMany, kinds, &mut made)?;
-    put_count(alloc, "absent", Kind::Absent, kinds, &mut made)?;
-    Ok(made)
+    tell(
+        teller,
+        "summary",
+        &[
+            Field::Bytes(all),
+            Field::Words(" profiles, children and hats: "),
+            Field::Number("same", counts.same),
+            Field::Words(" the same"),
+            Field::Share("wider", counts.wider, " wider"),
+            Field::Share("narrower", counts.narrower, " narrower"),
+            Field::Share("both", counts.both, " both"),
+            Field::Share("otherwise", counts.otherwise, " otherwise"),
+            Field::Share("gone", counts.gone, " gone"),
+            Field::Share("new", counts.new, " new"),
+            Field::Share("too_many", counts.many, " too many"),
+            Field::Share("absent", counts.absent, " absent"),
+        ],
+        out,
+    )
 }
 
 /// Appends what sums up to a text, by the words of all that is found: how many there are, and how many of each word, on a line that leaves those out of which
@@ -142,8 +103,7 @@ fn summary_record(alloc: Global, kinds: &[Kind]) -> Result<Record, AllocError>
 pub fn push_summary(teller: Teller, kinds: &[Kind], out: &mut Vec<u8>) -> Result<(), AllocError>
     ensures { OnOk result (out.new.items ≡ out.old.items ++ summary_text teller.form kinds.now) }
 {
-    match teller.form {
-        Form::Lines => push_line(kinds, out),
-        Form::Records => summary_record(teller.alloc, kinds)?.push(teller.alloc, out),
-    }
+    let mut all = Vec::new(teller.alloc);
+    push_number(&mut all, "", kinds.len())?;
+    push_counts(teller, &all, counts_of(kinds), out)
 }

@@ -2,7 +2,7 @@
 
 ghost use Rattle.std.specs.Prelude.{◌≡◌, ◌++◌, OnOk, Some, map};
 ghost use Rattle.aatry_path_changes.specs.Finding.{seen_both, seen_found};
-ghost use Rattle.aatry_diff_paths.specs.Telling.{absent_text, all_text, below_text, both_by, both_text, files_text, found_text, kind_word, many_word};
+ghost use Rattle.aatry_diff_paths.specs.Telling.{all_text, below_text, both_by, both_text, files_text, found_text, kind_word, many_word};
 ghost use Rattle.aatry_policy.specs.FolderParts.{seen_folder};
 ghost use Rattle.aatry_policy.specs.SeenProfiles.{seen_part};
 ghost use Rattle.aatry_shared.specs.Sides.{FindIn};
@@ -12,9 +12,10 @@ use crate::told_changes::push_rules;
 use crate::told_others::{push_mode, push_others};
 use crate::told_starts::push_starts;
 use aa_explain_changes::FileChanges;
-use aatry_changes::{Compared, headed_record, push_gone, push_headed};
+use aatry_changes::{Compared, push_gone, push_headed};
+use aatry_claims::push_absent;
 use aatry_path_changes::{BothFound, Finding, Found, Kind, is_same, kind_of_both};
-use aatry_report::{Form, Teller, push_shown};
+use aatry_report::{Form, Teller};
 use aatry_shared::{Finders, PartPair, Side, SidePart, finders_in};
 use std::alloc::AllocError;
 
@@ -159,21 +160,6 @@ fn push_both_by(
         return Ok(());
     }
     push_below(finders, teller, compared, both, out)
-}
-
-// Appends what is told of a name that nobody has to a text.
-fn push_absent(teller: Teller, name: &[u8], out: &mut Vec<u8>) -> Result<(), AllocError>
-    ensures { OnOk result (out.new.items ≡ out.old.items ++ absent_text teller.form name.now) }
-{
-    match teller.form {
-        Form::Lines => {
-            out.extend_from_slice(b"absent: nobody has the name ")?;
-            push_shown(out, name)?;
-            out.push(b'\n')?;
-            Ok(())
-        }
-        Form::Records => headed_record(teller.alloc, "absent", name)?.push(teller.alloc, out),
-    }
 }
 
 // Appends what is told of a name to a text.

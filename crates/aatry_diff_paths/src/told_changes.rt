@@ -1,102 +1,108 @@
 //! What is told of rules that one side alone has, and of what they change.
 
-ghost use Rattle.std.specs.Prelude.{◌≡◌, ◌++◌, IfOk, OnOk, map, option_map, slice_get};
+ghost use Rattle.std.specs.Prelude.{◌≡◌, ◌++◌, OnOk, map, option_map, slice_get};
 ghost use Rattle.aa_explain_changes.specs.FileChanges.{seen_rule_change};
 ghost use Rattle.aa_explain_changes.specs.Rules.{seen_change};
-ghost use Rattle.aatry_diff_paths.specs.Telling.{change_text, nothing_text, owner_note, path_line, path_record, path_text, rule_line, rule_text, rules_text};
+ghost use Rattle.aatry_diff_paths.specs.Telling.{change_told, path_by, path_told, rule_line, rule_text, rules_text};
 ghost use Rattle.aatry_policy.specs.FolderParts.{seen_folder};
 ghost use Rattle.aatry_policy.specs.SeenProfiles.{seen_part};
-ghost use Rattle.aatry_report.specs.SeenRecord.{seen_record};
 
-use crate::answers::{push_answers, put_answers};
+use crate::answers::{answer_text, tells_logs};
 use aa_explain_changes::{FileChange, RuleChange};
 use aa_explain_diff::Feature;
-use aatry_changes::headed_record;
-use aatry_claims::owner_word;
-use aatry_report::{Form, Record, Teller, push_shown};
+use aatry_claims::{owner_note, owner_word};
+use aatry_report::{Field, Teller, tell};
 use aatry_shared::{SidePart, push_lines};
 use aatry_why_lines::Finder;
-use std::alloc::{AllocError, Global};
+use std::alloc::AllocError;
 
-/// Appends whose file it is to a text, where it is the task's user's.
-///
-/// # Errors
-///
-/// Where memory runs out. A beginning may have been appended then.
-pub fn push_owner(owned: bool, out: &mut Vec<u8>) -> Result<(), AllocError>
-    ensures { OnOk result (out.new.items ≡ out.old.items ++ owner_note owned) }
+// Appends a path on which answers change to a text, by its letters, whose file it is, and the answers.
+#[tactic(auto, unfolding(crate::specs::Telling::path_by))]
+fn push_path_by<'x>(
+    teller: Teller,
+    name: &'x [u8],
+    letters: &'x [u8],
+    path: &'x [u8],
+    note: &'x str,
+    owned: &'x str,
+    before: &'x [u8],
+    after: &'x [u8],
+    out: &mut Vec<u8>,
+) -> Result<(), AllocError>
+    ensures { OnOk result (out.new.items
+        ≡ out.old.items ++ path_by teller.form name.now letters.now path.now note.now owned.now before.now after.now) }
 {
-    if owned {
-        out.extend_from_slice(b", of the owner")?;
-    }
-    Ok(())
+    tell(
+        teller,
+        "path",
+        &[
+            Field::Member("name", name),
+            Field::Words("      "),
+            Field::Bytes(letters),
+            Field::Member("letters", letters),
+            Field::Words(" of "),
+            Field::Text("path", path),
+            Field::Words(note),
+            Field::MemberWord("owned", owned),
+            Field::Words(": "),
+            Field::Bytes(before),
+            Field::Member("before", before),
+            Field::Words(" -> "),
+            Field::Bytes(after),
+            Field::Member("after", after),
+        ],
+        out,
+    )
 }
 
-// Appends a path on which answers change to a text, as a line.
-#[tactic(auto, unfolding(crate::specs::Telling::path_line))]
-fn push_path_line(change: &FileChange, out: &mut Vec<u8>) -> Result<(), AllocError>
-    ensures { OnOk result (out.new.items ≡ out.old.items ++ path_line (seen_change change.now)) }
-{
-    out.extend_from_slice(b"      ")?;
-    change.letters.push_letters(out)?;
-    out.extend_from_slice(b" of ")?;
-    push_shown(out, &change.path)?;
-    push_owner(change.owned, out)?;
-    push_answers(change.answers, out)
-}
-
-// The same as a record.
-#[tactic(auto, unfolding(crate::specs::Telling::path_record))]
-fn path_record(alloc: Global, name: &[u8], change: &FileChange) -> Result<Record, AllocError>
-    ensures { IfOk result (λ made. seen_record made ≡ path_record name.now (seen_change change.now)) }
-{
-    let mut letters = Vec::new(alloc);
-    change.letters.push_letters(&mut letters)?;
-    let mut made = headed_record(alloc, "path", name)?;
-    made.put_text(alloc, "path", &change.path)?;
-    made.put_text(alloc, "letters", &letters)?;
-    made.put_text(alloc, "owned", owner_word(change.owned).as_bytes())?;
-    put_answers(alloc, change.answers, &mut made)?;
-    Ok(made)
-}
-
-// Appends what is told of it.
+// Appends a path on which answers change to a text.
 fn push_path(
     teller: Teller,
     name: &[u8],
     change: &FileChange,
     out: &mut Vec<u8>,
 ) -> Result<(), AllocError>
-    ensures { OnOk result (out.new.items ≡ out.old.items ++ path_text teller.form name.now (seen_change change.now)) }
+    ensures { OnOk result (out.new.items ≡ out.old.items ++ path_told teller.form name.now (seen_change change.now)) }
 {
-    match teller.form {
-        Form::Lines => push_path_line(change, out),
-        Form::Records => { path_record(teller.alloc, name, change)?.push(teller.alloc, out) }
-    }
+    let logs = tells_logs(change.answers);
+    let before = answer_text(teller.alloc, logs, change.answers.old)?;
+    let after = answer_text(teller.alloc, logs, change.answers.new)?;
+    let mut letters = Vec::new(teller.alloc);
+    change.letters.push_letters(&mut letters)?;
+    let note = owner_note(change.owned);
+    let owned = owner_word(change.owned);
+    push_path_by(
+        teller,
+        name,
+        &letters,
+        &change.path,
+        note,
+        owned,
+        &before,
+        &after,
+        out,
+    )
 }
 
-// Appends that a rule changes nothing.
-fn push_nothing(teller: Teller, name: &[u8], out: &mut Vec<u8>) -> Result<(), AllocError>
-    ensures { OnOk result (out.new.items ≡ out.old.items ++ nothing_text teller.form name.now) }
-{
-    match teller.form {
-        Form::Lines => out.extend_from_slice(b"      changes nothing\n"),
-        Form::Records => headed_record(teller.alloc, "nothing", name)?.push(teller.alloc, out),
-    }
-}
-
-// Appends what is told below a rule.
+// Appends what is told below a rule: a path on which answers change, or that it changes nothing.
 fn push_told(
     teller: Teller,
     name: &[u8],
     change: &Option<FileChange>,
     out: &mut Vec<u8>,
 ) -> Result<(), AllocError>
-    ensures { OnOk result (out.new.items ≡ out.old.items
-        ++ change_text teller.form name.now (option_map seen_change change.now)) }
+    ensures { OnOk result (out.new.items ≡ out.old.items ++ change_told teller.form name.now (option_map seen_change change.now)) }
 {
     match change {
-        None => push_nothing(teller, name, out),
+        None => tell(
+            teller,
+            "nothing",
+            &[
+                Field::Member("name", name),
+                Field::Words("      changes nothing"),
+            ],
+            out,
+        ),
         Some(change) => push_path(teller, name, change, out),
     }
 }

@@ -1,19 +1,15 @@
 //! What is told of modes, capabilities and sockets.
 
-ghost use Rattle.std.specs.Prelude.{◌≡◌, ◌++◌, IfOk, OnOk, option_map};
-ghost use Rattle.aa_profile_data.specs.Capabilities.{capability_name};
-ghost use Rattle.aatry_diff_paths.specs.Telling.{answers_text, capability_words, mode_line, mode_record, mode_text, modes_text, name_or, other_record, other_text, other_words, others_text, with_answers};
-ghost use Rattle.aatry_report.specs.Records.{record_line};
-ghost use Rattle.aatry_report.specs.SeenRecord.{seen_record};
+ghost use Rattle.std.specs.Prelude.{◌≡◌, ◌++◌, OnOk, option_map};
+ghost use Rattle.aatry_diff_paths.specs.Telling.{capability_by, mode_told, name_or, other_told, others_told, sockets_by};
 ghost use Rattle.aatry_shared.specs.PartFeatures.{state_text};
 
-use crate::answers::{push_answers, put_answers};
+use crate::answers::{answer_text, tells_logs};
 use aa_profile_data::{Mode, capability_name, domain_name, kind_name};
 use aa_set_answers::mode_word;
-use aatry_changes::headed_record;
 use aatry_path_changes::{Other, OtherChange, same_state};
-use aatry_report::{Form, Record, Teller};
-use std::alloc::{AllocError, Global};
+use aatry_report::{Field, Teller, tell};
+use std::alloc::AllocError;
 
 // The word of a mode, or that somebody is disabled.
 fn state_word(mode: Option<Mode>) -> &'static str
@@ -22,51 +18,6 @@ fn state_word(mode: Option<Mode>) -> &'static str
     match mode {
         None => "disabled",
         Some(mode) => mode_word(mode),
-    }
-}
-
-// Appends a change of modes to a text as a line.
-#[tactic(auto, unfolding(crate::specs::Telling::mode_line))]
-fn push_mode_line(old: Option<Mode>, new: Option<Mode>, out: &mut Vec<u8>) -> Result<(), AllocError>
-    ensures { OnOk result (out.new.items ≡ out.old.items ++ mode_line old new) }
-{
-    out.extend_from_slice(b"  mode: ")?;
-    out.extend_from_slice(state_word(old).as_bytes())?;
-    out.extend_from_slice(b" -> ")?;
-    out.extend_from_slice(state_word(new).as_bytes())?;
-    out.push(b'\n')?;
-    Ok(())
-}
-
-// The same as a record.
-#[tactic(auto, unfolding(crate::specs::Telling::mode_record))]
-fn mode_record(
-    alloc: Global,
-    name: &[u8],
-    old: Option<Mode>,
-    new: Option<Mode>,
-) -> Result<Record, AllocError>
-    ensures { IfOk result (λ made. seen_record made ≡ mode_record name.now old new) }
-{
-    let mut made = headed_record(alloc, "mode", name)?;
-    made.put_text(alloc, "before", state_word(old).as_bytes())?;
-    made.put_text(alloc, "after", state_word(new).as_bytes())?;
-    Ok(made)
-}
-
-// Appends what is told of it.
-fn push_modes(
-    teller: Teller,
-    name: &[u8],
-    old: Option<Mode>,
-    new: Option<Mode>,
-    out: &mut Vec<u8>,
-) -> Result<(), AllocError>
-    ensures { OnOk result (out.new.items ≡ out.old.items ++ modes_text teller.form name.now old new) }
-{
-    match teller.form {
-        Form::Lines => push_mode_line(old, new, out),
-        Form::Records => mode_record(teller.alloc, name, old, new)?.push(teller.alloc, out),
     }
 }
 
@@ -82,12 +33,23 @@ pub fn push_mode(
     new: Option<Mode>,
     out: &mut Vec<u8>,
 ) -> Result<(), AllocError>
-    ensures { OnOk result (out.new.items ≡ out.old.items ++ mode_text teller.form name.now old new) }
+    ensures { OnOk result (out.new.items ≡ out.old.items ++ mode_told teller.form name.now old new) }
 {
     if same_state(old, new) {
         return Ok(());
     }
-    push_modes(teller, name, old, new, out)
+    tell(
+        teller,
+        "mode",
+        &[
+            Field::Member("name", name),
+            Field::Words("  mode: "),
+            Field::Word("before", state_word(old)),
+            Field::Words(" -> "),
+            Field::Word("after", state_word(new)),
+        ],
+        out,
+    )
 }
 
 // A name, if there is one.
@@ -100,92 +62,91 @@ fn name_or(name: Option<&'static str>) -> &'static str
     }
 }
 
-// The word of a capability.
-fn capability_word(number: u8) -> &'static str
-    ensures { result.now ≡ name_or (capability_name number) }
-{
-    name_or(capability_name(number))
-}
-
-// Appends a capability to a text, behind blanks.
-#[tactic(auto, unfolding(crate::specs::Telling::capability_words))]
-fn push_capability(number: u8, out: &mut Vec<u8>) -> Result<(), AllocError>
-    ensures { OnOk result (out.new.items ≡ out.old.items ++ capability_words number) }
-{
-    let word = capability_word(number);
-    out.extend_from_slice(b"  capability ")?;
-    out.extend_from_slice(word.as_bytes())?;
-    Ok(())
-}
-
-// Appends what is asked for to a text, behind blanks.
-fn push_words(other: Other, out: &mut Vec<u8>) -> Result<(), AllocError>
-    ensures { OnOk result (out.new.items ≡ out.old.items ++ other_words other) }
-{
-    match other {
-        Other::Capability(number) => push_capability(number, out),
-        Other::Sockets(domain, kind) => {
-            out.extend_from_slice(b"  sockets ")?;
-            out.extend_from_slice(name_or(domain_name(domain)).as_bytes())?;
-            out.extend_from_slice(b" ")?;
-            out.extend_from_slice(name_or(kind_name(kind)).as_bytes())
-        }
-    }
-}
-
-// The record of what is asked for.
-fn other_record(alloc: Global, name: &[u8], other: Other) -> Result<Record, AllocError>
-    ensures { IfOk result (λ made. seen_record made ≡ other_record name.now other) }
-{
-    match other {
-        Other::Capability(number) => {
-            let mut made = headed_record(alloc, "capability", name)?;
-            made.put_text(alloc, "capability", capability_word(number).as_bytes())?;
-            Ok(made)
-        }
-        Other::Sockets(domain, kind) => {
-            let mut made = headed_record(alloc, "sockets", name)?;
-            made.put_text(alloc, "domain", name_or(domain_name(domain)).as_bytes())?;
-            made.put_text(alloc, "type", name_or(kind_name(kind)).as_bytes())?;
-            Ok(made)
-        }
-    }
-}
-
-// Appends what is told of it as a line.
-fn push_line(change: &OtherChange, out: &mut Vec<u8>) -> Result<(), AllocError>
-    ensures { OnOk result (out.new.items ≡ out.old.items ++ (other_words change.now.other ++ answers_text change.now.answers)) }
-{
-    push_words(change.other, out)?;
-    push_answers(change.answers, out)
-}
-
-// The same as a record.
-fn push_record(
-    alloc: Global,
-    name: &[u8],
-    change: &OtherChange,
+// Appends a capability to a text, and the answers.
+#[tactic(auto, unfolding(crate::specs::Telling::capability_by))]
+fn push_capability<'x>(
+    teller: Teller,
+    name: &'x [u8],
+    capability: &'x str,
+    before: &'x [u8],
+    after: &'x [u8],
     out: &mut Vec<u8>,
 ) -> Result<(), AllocError>
-    ensures { OnOk result (out.new.items ≡ out.old.items ++ record_line (with_answers change.now.answers (other_record name.now change.now.other))) }
+    ensures { OnOk result (out.new.items ≡ out.old.items ++ capability_by teller.form name.now capability.now before.now after.now) }
 {
-    let mut made = other_record(alloc, name, change.other)?;
-    put_answers(alloc, change.answers, &mut made)?;
-    made.push(alloc, out)
+    tell(
+        teller,
+        "capability",
+        &[
+            Field::Member("name", name),
+            Field::Words("  capability "),
+            Field::Word("capability", capability),
+            Field::Words(": "),
+            Field::Bytes(before),
+            Field::Member("before", before),
+            Field::Words(" -> "),
+            Field::Bytes(after),
+            Field::Member("after", after),
+        ],
+        out,
+    )
 }
 
-// Appends what is told of it.
+// Appends sockets to a text, and the answers.
+#[tactic(auto, unfolding(crate::specs::Telling::sockets_by))]
+fn push_sockets<'x>(
+    teller: Teller,
+    name: &'x [u8],
+    domain: &'x str,
+    kind: &'x str,
+    before: &'x [u8],
+    after: &'x [u8],
+    out: &mut Vec<u8>,
+) -> Result<(), AllocError>
+    ensures { OnOk result (out.new.items ≡ out.old.items ++ sockets_by teller.form name.now domain.now kind.now before.now after.now) }
+{
+    tell(
+        teller,
+        "sockets",
+        &[
+            Field::Member("name", name),
+            Field::Words("  sockets "),
+            Field::Word("domain", domain),
+            Field::Words(" "),
+            Field::Word("type", kind),
+            Field::Words(": "),
+            Field::Bytes(before),
+            Field::Member("before", before),
+            Field::Words(" -> "),
+            Field::Bytes(after),
+            Field::Member("after", after),
+        ],
+        out,
+    )
+}
+
+// Appends what is told of a capability, or of sockets, to a text.
 fn push_other(
     teller: Teller,
     name: &[u8],
     change: &OtherChange,
     out: &mut Vec<u8>,
 ) -> Result<(), AllocError>
-    ensures { OnOk result (out.new.items ≡ out.old.items ++ other_text teller.form name.now change.now) }
+    ensures { OnOk result (out.new.items ≡ out.old.items ++ other_told teller.form name.now change.now) }
 {
-    match teller.form {
-        Form::Lines => push_line(change, out),
-        Form::Records => push_record(teller.alloc, name, change, out),
+    let logs = tells_logs(change.answers);
+    let before = answer_text(teller.alloc, logs, change.answers.old)?;
+    let after = answer_text(teller.alloc, logs, change.answers.new)?;
+    match change.other {
+        Other::Capability(number) => {
+            let capability = name_or(capability_name(number));
+            push_capability(teller, name, capability, &before, &after, out)
+        }
+        Other::Sockets(domain, kind) => {
+            let domain = name_or(domain_name(domain));
+            let kind = name_or(kind_name(kind));
+            push_sockets(teller, name, domain, kind, &before, &after, out)
+        }
     }
 }
 
@@ -200,7 +161,7 @@ pub fn push_others(
     changes: &[OtherChange],
     out: &mut Vec<u8>,
 ) -> Result<(), AllocError>
-    ensures { OnOk result (out.new.items ≡ out.old.items ++ others_text teller.form name.now changes.now) }
+    ensures { OnOk result (out.new.items ≡ out.old.items ++ others_told teller.form name.now changes.now) }
 {
     let mut rest = changes;
     while let [change, behind @ ..] = rest {

@@ -1,13 +1,10 @@
 -- The report on the requests of a log (docs/aatry.md).
 use Rattle.std.specs.Prelude.{◌≡◌, ℕ, ◌+◌, ◌==◌, if◌then◌else◌, List, [], ◌∷◌, ◌++◌, Option, None, Some, codes, flat_map}
-use Rattle.serde_json.specs.Data.{Members}
-use Rattle.aa_bytes.specs.Bytes.{line_feed}
 use Rattle.aatry_folder.specs.Reports.{failed_by}
 use Rattle.aatry_log.specs.Prefixed.{prefixed_text}
 use Rattle.aatry_policy.specs.Folders.{Folder, policy_in}
-use Rattle.aatry_report.specs.Records.{record_line, record_of, with_number, with_text}
+use Rattle.aatry_report.specs.Fields.{Bytes, Member, MemberNumber, Words, told}
 use Rattle.aatry_report.specs.declared.form.Form.{Form}
-use Rattle.aatry_report.specs.declared.form.Form.TheVariants.{Lines, Records}
 use Rattle.aatry_requests.specs.Counts.{times_text}
 use Rattle.aatry_requests.specs.Order.{IsMostAskedFirst}
 use Rattle.aatry_requests.specs.Tallies.{Tally}
@@ -16,33 +13,33 @@ use Rattle.aatry_requests.specs.declared.spans.Span.{Span}
 use Rattle.aatry_words.specs.Told.{time_text}
 use Rattle.aatry_why.specs.Why.{asked_text, has_answer}
 
--- when a request occurred first and last: one time, where these are the same, and nothing where no time is known
+-- the last time, where it differs from the first
 abbrev pub last_text : Span → List ℕ
 last_text span = if span.first == span.last then [] else codes " to " ++ time_text span.last
 
-abbrev pub span_text : Option Span → List ℕ
-span_text None = []
-span_text (Some span) = codes " (" ++ time_text span.first ++ last_text span ++ codes ")"
+-- the heading of a request: how often it occurred, as a number and in words, when, and its question; by its first time, what is printed after that, and its last
+unfoldable pub times_told : Form → ℕ → (times first behind last question : List ℕ) → List ℕ
+times_told form number times first behind last question =
+    told form (codes "request")
+    (Bytes times ∷ MemberNumber (codes "times") number ∷ Words (codes " (") ∷ Bytes first ∷ Member (codes "first") first ∷ Bytes behind
+    ∷ Member (codes "last") last ∷ Words (codes "): ") ∷ Bytes question ∷ Member (codes "question") question ∷ [])
 
--- a request as a line: how often it occurred, when, and its question
-abbrev pub request_line : Tally → List ℕ
-request_line tally = times_text tally.times ++ span_text tally.span ++ codes ": " ++ question_text tally.question ++ line_feed ∷ []
+abbrev pub spanned_text : Form → (number : ℕ) → (times : List ℕ) → Span → (question : List ℕ) → List ℕ
+spanned_text form number times span question =
+    times_told form number times (time_text span.first) (last_text span) (time_text span.last) question
 
--- a record with when something occurred first and last, where times are known
-abbrev pub with_span : Option Span → Members → Members
-with_span None members = members
-with_span (Some span) members = with_text (codes "last") (time_text span.last) (with_text (codes "first") (time_text span.first) members)
+-- that of one whose times aren't known
+unfoldable pub timeless_told : Form → ℕ → (times question : List ℕ) → List ℕ
+timeless_told form number times question =
+    told form (codes "request")
+    (Bytes times ∷ MemberNumber (codes "times") number ∷ Words (codes ": ") ∷ Bytes question ∷ Member (codes "question") question ∷ [])
 
--- the record of a request
-abbrev pub request_record : Tally → Members
-request_record tally =
-    with_span tally.span (with_number (codes "times") tally.times
-    (with_text (codes "question") (question_text tally.question) (record_of (codes "request"))))
+abbrev pub head_by : Form → (number : ℕ) → (times : List ℕ) → Option Span → (question : List ℕ) → List ℕ
+head_by form number times None question = timeless_told form number times question
+head_by form number times (Some span) question = spanned_text form number times span question
 
--- the heading of a request
 abbrev pub head_text : Form → Tally → List ℕ
-head_text Lines tally = request_line tally
-head_text Records tally = record_line (request_record tally)
+head_text form tally = head_by form tally.times (times_text tally.times) tally.span (question_text tally.question)
 
 -- a request, and below it, two spaces in, the present answer of a folder's policy, and on what that could depend, as `why` prints it
 abbrev pub request_text : Form → Folder → Tally → List ℕ

@@ -1,61 +1,69 @@
 //! The report on lines of logs that make no question.
 
-ghost use Rattle.std.specs.Prelude.{◌≡◌, ◌++◌, IfOk, OnOk, option_map, string_bytes};
-ghost use Rattle.aatry_log.specs.Apart.{apart_text, kept_text, line_record, line_text, place_text, told_line, with_file};
+ghost use Rattle.std.specs.Prelude.{◌≡◌, ◌++◌, OnOk};
+ghost use Rattle.aatry_log.specs.Apart.{apart_text, kept_text, line_text, numbered_told, placed_told};
 ghost use Rattle.aatry_logs.specs.Apart.{seen_kept, seen_lines};
 ghost use Rattle.aatry_logs.specs.LogRequests.{seen_logs};
-ghost use Rattle.aatry_report.specs.SeenRecord.{seen_record};
 
 use aatry_logs::{KeptLine, LogRequests};
-use aatry_report::{Form, Record, Teller, push_number, push_shown};
-use std::alloc::{AllocError, Global};
+use aatry_report::{Field, Teller, tell};
+use std::alloc::AllocError;
 
-// Appends the place of a line to a text.
-fn push_place(file: &Option<String>, line: u64, out: &mut Vec<u8>) -> Result<(), AllocError>
-    ensures { OnOk result (out.new.items ≡ out.old.items ++ place_text (option_map string_bytes file.now) line) }
+// Appends a line of standard input to a text, by its number and its text, after the word of its kind.
+#[tactic(auto, unfolding(crate::specs::Apart::numbered_told))]
+fn push_numbered<'x>(
+    teller: Teller,
+    kind: &'x str,
+    number: usize,
+    text: &'x [u8],
+    out: &mut Vec<u8>,
+) -> Result<(), AllocError>
+    ensures { OnOk result (out.new.items ≡ out.old.items ++ numbered_told teller.form kind.now number text.now) }
 {
-    let Some(file) = file else {
-        return push_number(out, "line ", line as usize);
-    };
-    push_shown(out, file.as_bytes())?;
-    push_number(out, ":", line as usize)
+    tell(
+        teller,
+        kind,
+        &[
+            Field::Words("line "),
+            Field::Number("line", number),
+            Field::Words(": "),
+            Field::Words(kind),
+            Field::Words(": "),
+            Field::Text("text", text),
+        ],
+        out,
+    )
 }
 
-// Appends a line to a text, after the word of its kind.
-fn push_line(kind: &str, line: &KeptLine, out: &mut Vec<u8>) -> Result<(), AllocError>
-    ensures { OnOk result (out.new.items ≡ out.old.items ++ told_line kind.now (seen_kept line.now)) }
+// Appends a line of a log to a text, by the path of the log too.
+#[tactic(auto, unfolding(crate::specs::Apart::placed_told))]
+fn push_placed<'x>(
+    teller: Teller,
+    kind: &'x str,
+    file: &'x [u8],
+    number: usize,
+    text: &'x [u8],
+    out: &mut Vec<u8>,
+) -> Result<(), AllocError>
+    ensures { OnOk result (out.new.items ≡ out.old.items ++ placed_told teller.form kind.now file.now number text.now) }
 {
-    push_place(&line.file, line.line, out)?;
-    out.extend_from_slice(b": ")?;
-    out.extend_from_slice(kind.as_bytes())?;
-    out.extend_from_slice(b": ")?;
-    push_shown(out, &line.text)?;
-    out.push(b'\n')?;
-    Ok(())
+    tell(
+        teller,
+        kind,
+        &[
+            Field::Text("file", file),
+            Field::Words(":"),
+            Field::Number("line", number),
+            Field::Words(": "),
+            Field::Words(kind),
+            Field::Words(": "),
+            Field::Text("text", text),
+        ],
+        out,
+    )
 }
 
-// Puts the path of a log into a record, as `file`, where it has one.
-fn put_file(alloc: Global, file: &Option<String>, into: &mut Record) -> Result<(), AllocError>
-    ensures { OnOk result (seen_record into.new ≡ with_file (option_map string_bytes file.now) (seen_record into.old)) }
-{
-    match file {
-        Some(path) => into.put_text(alloc, "file", path.as_bytes()),
-        None => Ok(()),
-    }
-}
-
-// The record of a line, of its kind.
-fn line_record(alloc: Global, kind: &str, line: &KeptLine) -> Result<Record, AllocError>
-    ensures { IfOk result (λ made. seen_record made ≡ line_record kind.now (seen_kept line.now)) }
-{
-    let mut made = Record::new(alloc, kind)?;
-    put_file(alloc, &line.file, &mut made)?;
-    made.put_number(alloc, "line", line.line as usize)?;
-    made.put_text(alloc, "text", &line.text)?;
-    Ok(made)
-}
-
-// Appends the line or record on a kept line to a text.
+// Appends a kept line of a kind to a text.
 fn push_told(
     teller: Teller,
     kind: &str,
@@ -64,9 +72,10 @@ fn push_told(
 ) -> Result<(), AllocError>
     ensures { OnOk result (out.new.items ≡ out.old.items ++ line_text teller.form kind.now (seen_kept line.now)) }
 {
-    match teller.form {
-        Form::Lines => push_line(kind, line, out),
-        Form::Records => line_record(teller.alloc, kind, line)?.push(teller.alloc, out),
+    let number = line.line as usize;
+    match &line.file {
+        None => push_numbered(teller, kind, number, &line.text, out),
+        Some(file) => push_placed(teller, kind, file.as_bytes(), number, &line.text, out),
     }
 }
 

@@ -1,14 +1,11 @@
 //! The heading of a request.
 
-ghost use Rattle.std.specs.Prelude.{◌≡◌, ◌++◌, IfOk, OnOk, codes};
-ghost use Rattle.aatry_log.specs.Requests.{head_text, last_text, request_line, request_record, span_text, with_span};
-ghost use Rattle.aatry_report.specs.Records.{with_text};
-ghost use Rattle.aatry_report.specs.SeenRecord.{seen_record};
+ghost use Rattle.std.specs.Prelude.{◌≡◌, ◌++◌, IfOk, OnOk};
+ghost use Rattle.aatry_log.specs.Requests.{head_text, last_text, spanned_text, timeless_told, times_told};
 ghost use Rattle.aatry_requests.specs.SeenTallies.{seen_tally};
-ghost use Rattle.aatry_requests.specs.Texts.{question_text};
 ghost use Rattle.aatry_words.specs.Told.{time_text};
 
-use aatry_report::{Form, Record, Teller};
+use aatry_report::{Field, Teller, tell};
 use aatry_requests::{Span, Tally, push_question, push_times};
 use aatry_words::push_time;
 use std::alloc::{AllocError, Global};
@@ -24,70 +21,91 @@ fn push_last(out: &mut Vec<u8>, span: Span) -> Result<(), AllocError>
     push_time(out, span.last)
 }
 
-// Appends when a request occurred to a text, where that is known.
-fn push_span(out: &mut Vec<u8>, span: Option<Span>) -> Result<(), AllocError>
-    ensures { OnOk result (out.new.items ≡ out.old.items ++ span_text span) }
-{
-    let Some(span) = span else {
-        return Ok(());
-    };
-    out.extend_from_slice(b" (")?;
-    push_time(out, span.first)?;
-    push_last(out, span)?;
-    out.extend_from_slice(b")")?;
-    Ok(())
-}
-
-// Appends the line of a request to a text.
-fn push_line(tally: &Tally<'_>, out: &mut Vec<u8>) -> Result<(), AllocError>
-    ensures { OnOk result (out.new.items ≡ out.old.items ++ request_line (seen_tally tally.now)) }
-{
-    push_times(out, tally.times)?;
-    push_span(out, tally.span)?;
-    out.extend_from_slice(b": ")?;
-    push_question(out, &tally.question.question())?;
-    out.push(b'\n')?;
-    Ok(())
-}
-
-// Puts a time into a record by a name.
-fn put_time(alloc: Global, name: &str, time: u64, into: &mut Record) -> Result<(), AllocError>
-    ensures { OnOk result (seen_record into.new ≡ with_text name.now (time_text time) (seen_record into.old)) }
+// A time, as it is told.
+fn time_text(alloc: Global, time: u64) -> Result<Vec<u8>, AllocError>
+    ensures { IfOk result (λ text. text.items ≡ time_text time) }
 {
     let mut text = Vec::new(alloc);
     push_time(&mut text, time)?;
-    into.put_text(alloc, name, &text)
+    Ok(text)
 }
 
-// Puts when a request occurred into a record, as `first` and `last`, where that is known.
-fn put_span(alloc: Global, span: Option<Span>, into: &mut Record) -> Result<(), AllocError>
-    ensures { OnOk result (seen_record into.new ≡ with_span span (seen_record into.old)) }
+// Appends the heading of a request to a text, by how often it occurred, as a number and in words, its first time, what is printed after that, its last time,
+// and its question.
+#[tactic(auto, unfolding(crate::specs::Requests::times_told))]
+fn push_times_told<'x>(
+    teller: Teller,
+    number: usize,
+    times: &'x [u8],
+    first: &'x [u8],
+    behind: &'x [u8],
+    last: &'x [u8],
+    question: &'x [u8],
+    out: &mut Vec<u8>,
+) -> Result<(), AllocError>
+    ensures { OnOk result (out.new.items
+        ≡ out.old.items ++ times_told teller.form number times.now first.now behind.now last.now question.now) }
 {
-    let Some(span) = span else {
-        return Ok(());
-    };
-    put_time(alloc, "first", span.first, into)?;
-    put_time(alloc, "last", span.last, into)
+    tell(
+        teller,
+        "request",
+        &[
+            Field::Bytes(times),
+            Field::MemberNumber("times", number),
+            Field::Words(" ("),
+            Field::Bytes(first),
+            Field::Member("first", first),
+            Field::Bytes(behind),
+            Field::Member("last", last),
+            Field::Words("): "),
+            Field::Bytes(question),
+            Field::Member("question", question),
+        ],
+        out,
+    )
 }
 
-// Puts the question of a request into a record, as `question`.
-fn put_question(alloc: Global, tally: &Tally<'_>, into: &mut Record) -> Result<(), AllocError>
-    ensures { OnOk result (seen_record into.new ≡ with_text (codes "question") (question_text (seen_tally tally.now).question) (seen_record into.old)) }
+// Appends the heading of a request to a text, which occurred in this span, by how often, as a number and in words, and its question.
+fn push_spanned(
+    teller: Teller,
+    number: usize,
+    times: &[u8],
+    span: Span,
+    question: &[u8],
+    out: &mut Vec<u8>,
+) -> Result<(), AllocError>
+    ensures { OnOk result (out.new.items ≡ out.old.items ++ spanned_text teller.form number times.now span question.now) }
 {
-    let mut text = Vec::new(alloc);
-    push_question(&mut text, &tally.question.question())?;
-    into.put_text(alloc, "question", &text)
+    let first = time_text(teller.alloc, span.first)?;
+    let last = time_text(teller.alloc, span.last)?;
+    let mut behind = Vec::new(teller.alloc);
+    push_last(&mut behind, span)?;
+    push_times_told(teller, number, times, &first, &behind, &last, question, out)
 }
 
-// The record of a request.
-fn request_record(alloc: Global, tally: &Tally<'_>) -> Result<Record, AllocError>
-    ensures { IfOk result (λ made. seen_record made ≡ request_record (seen_tally tally.now)) }
+// Appends the heading of a request to a text, by how often it occurred, as a number and in words, and its question.
+#[tactic(auto, unfolding(crate::specs::Requests::timeless_told))]
+fn push_timeless<'x>(
+    teller: Teller,
+    number: usize,
+    times: &'x [u8],
+    question: &'x [u8],
+    out: &mut Vec<u8>,
+) -> Result<(), AllocError>
+    ensures { OnOk result (out.new.items ≡ out.old.items ++ timeless_told teller.form number times.now question.now) }
 {
-    let mut made = Record::new(alloc, "request")?;
-    put_question(alloc, tally, &mut made)?;
-    made.put_number(alloc, "times", tally.times as usize)?;
-    put_span(alloc, tally.span, &mut made)?;
-    Ok(made)
+    tell(
+        teller,
+        "request",
+        &[
+            Field::Bytes(times),
+            Field::MemberNumber("times", number),
+            Field::Words(": "),
+            Field::Bytes(question),
+            Field::Member("question", question),
+        ],
+        out,
+    )
 }
 
 /// Appends the heading of a request to a text: a line with how often it occurred, when, and its question, or a record of the kind `request` with the
@@ -99,8 +117,13 @@ fn request_record(alloc: Global, tally: &Tally<'_>) -> Result<Record, AllocError
 pub fn push_head(teller: Teller, tally: &Tally<'_>, out: &mut Vec<u8>) -> Result<(), AllocError>
     ensures { OnOk result (out.new.items ≡ out.old.items ++ head_text teller.form (seen_tally tally.now)) }
 {
-    match teller.form {
-        Form::Lines => push_line(tally, out),
-        Form::Records => request_record(teller.alloc, tally)?.push(teller.alloc, out),
+    let number = tally.times as usize;
+    let mut times = Vec::new(teller.alloc);
+    push_times(&mut times, tally.times)?;
+    let mut question = Vec::new(teller.alloc);
+    push_question(&mut question, &tally.question.question())?;
+    match tally.span {
+        None => push_timeless(teller, number, &times, &question, out),
+        Some(span) => push_spanned(teller, number, &times, span, &question, out),
     }
 }

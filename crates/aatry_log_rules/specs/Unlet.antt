@@ -1,17 +1,14 @@
 -- Requests for which there is no rule to add, as they are printed.
-use Rattle.std.specs.Prelude.{ℕ, ◌==◌, Bool, if◌then◌else◌, List, [], ◌∷◌, ◌++◌, codes}
-use Rattle.serde_json.specs.Data.{Members}
-use Rattle.aa_bytes.specs.Bytes.{line_feed}
+use Rattle.std.specs.Prelude.{ℕ, ◌==◌, Bool, if◌then◌else◌, List, [], ◌∷◌, codes}
 use Rattle.aa_profile_data.specs.Access.{EXEC}
 use Rattle.aa_profile_data.specs.Request.{ForCapability, ForFile, ForSockets, Request}
 use Rattle.aa_set_commands.specs.Question.{OfAccess, OfExec, Question}
-use Rattle.aatry_log_rules.specs.Found.{asked_text}
 use Rattle.aatry_log_rules.specs.Wanted.{Wanted}
 use Rattle.aatry_log_rules.specs.declared.finding.NoRule.{NoRule}
 use Rattle.aatry_log_rules.specs.declared.finding.NoRule.TheVariants.{Denied, InTheWay, Unwritten}
-use Rattle.aatry_report.specs.Records.{record_line, record_of, with_number, with_text}
+use Rattle.aatry_report.specs.Fields.{Bytes, Member, MemberNumber, Word, Words, told}
 use Rattle.aatry_report.specs.declared.form.Form.{Form}
-use Rattle.aatry_report.specs.declared.form.Form.TheVariants.{Lines, Records}
+use Rattle.aatry_requests.specs.Counts.{times_text}
 use Rattle.aatry_requests.specs.Texts.{question_text}
 
 -- the words that say why there is none
@@ -34,17 +31,12 @@ question_for who (ForSockets domain kind) = OfAccess who (ForSockets domain kind
 abbrev pub question_of : Wanted → Question
 question_of wanted = question_for wanted.who wanted.request
 
--- a question without a rule: as a comment on a line of its own
-abbrev pub unlet_line : NoRule → Question → ℕ → List ℕ
-unlet_line reason question times =
-    codes "# " ++ reason_words reason ++ codes ": " ++ question_text question ++ codes ", " ++ asked_text times ++ line_feed ∷ []
-
--- the record of a question without a rule
-abbrev pub unlet_record : NoRule → Question → ℕ → Members
-unlet_record reason question times =
-    with_number (codes "times") times (with_text (codes "reason") (reason_words reason)
-    (with_text (codes "question") (question_text question) (record_of (codes "no_rule"))))
+-- a question without a rule, by the reason, in words, and how often it was asked, in words and as a number; in the line it is a comment
+unfoldable pub no_rule_told : Form → (reason question times : List ℕ) → ℕ → List ℕ
+no_rule_told form reason question times number =
+    told form (codes "no_rule")
+    (Words (codes "# ") ∷ Word (codes "reason") reason ∷ Words (codes ": ") ∷ Bytes question ∷ Member (codes "question") question
+    ∷ Words (codes ", asked ") ∷ Bytes times ∷ MemberNumber (codes "times") number ∷ [])
 
 abbrev pub unlet_text : Form → NoRule → Question → ℕ → List ℕ
-unlet_text Lines reason question times = unlet_line reason question times
-unlet_text Records reason question times = record_line (unlet_record reason question times)
+unlet_text form reason question times = no_rule_told form (reason_words reason) (question_text question) (times_text times) times

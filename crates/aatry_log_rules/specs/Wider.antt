@@ -2,7 +2,6 @@
 use Rattle.std.specs.Prelude.{ℕ, Bool, if◌then◌else◌, List, [], ◌∷◌, ◌++◌, codes, Option, None, Some}
 use Rattle.std.specs.List.{list_any}
 use Rattle.std.specs.Str.{bytes_eq}
-use Rattle.serde_json.specs.Data.{Members}
 use Rattle.aa_bytes.specs.Bytes.{line_feed}
 use Rattle.aa_profile_data.specs.Request.{ForCapability, ForFile, ForSockets, Request}
 use Rattle.aa_profile_data.specs.declared.profile.Rule.{Rule}
@@ -10,7 +9,6 @@ use Rattle.aa_profile_data.specs.declared.profile.Rule.TheVariants.{Cap, File, N
 use Rattle.aatry_log_globs.specs.Rules.{wider_rule}
 use Rattle.aatry_log_rules.specs.declared.finding.Finding.{Finding}
 use Rattle.aatry_log_rules.specs.declared.finding.Finding.TheVariants as finding
-use Rattle.aatry_report.specs.Records.{with_text}
 use Rattle.aatry_report.specs.declared.form.Form.{Form}
 use Rattle.aatry_report.specs.declared.form.Form.TheVariants.{Lines, Records}
 
@@ -57,8 +55,3 @@ wider_once Records told text = []
 abbrev pub wider_text : Form → List (List ℕ) → Option (List ℕ) → List ℕ
 wider_text form told None = []
 wider_text form told (Some text) = wider_once form (has_text text told) text
-
--- a record with a wider rule, if there is one
-abbrev pub with_wider : Option (List ℕ) → Members → Members
-with_wider None members = members
-with_wider (Some text) members = with_text (codes "wider") text members

@@ -1,32 +1,16 @@
 //! Abstractions that allow some of the wanted requests of an asker, as they are printed.
 
-ghost use Rattle.std.specs.Prelude.{◌≡◌, ◌++◌, [], IfOk, OnOk, flat_map, map, slice_get};
+ghost use Rattle.std.specs.Prelude.{◌≡◌, ◌++◌, IfOk, OnOk, flat_map, map, slice_get};
 ghost use Rattle.aatry_abstractions.specs.SeenLetting.{seen_letting};
-ghost use Rattle.aatry_log_rules.specs.Offers.{
-  include_text,
-  is_wanted_by,
-  let_text,
-  offer_line,
-  offer_line_of,
-  offer_of,
-  offer_record,
-  offer_record_of,
-  offers,
-  offers_of,
-  offers_text,
-  others_line,
-  own_count,
-};
+ghost use Rattle.aatry_log_rules.specs.Offers.{first_offers, is_wanted_by, offer_of, offer_text, offers, offers_of, others_line, own_count};
 ghost use Rattle.aatry_log_rules.specs.SeenTelling.{seen_offer, seen_telling};
 ghost use Rattle.aatry_log_rules.specs.SeenWanted.{seen_wanted};
-ghost use Rattle.aatry_report.specs.SeenRecord.{seen_record};
-ghost use Rattle.aatry_report.specs.declared.form.Form.TheVariants as form;
 
 use crate::telling_by::RuleTelling;
 use crate::wanted::Wanted;
 use aatry_abstractions::LettingAbstraction;
-use aatry_report::{Form, Record, push_number, push_shown};
-use std::alloc::{AllocError, Global};
+use aatry_report::{Field, Form, Teller, push_number, tell};
+use std::alloc::AllocError;
 
 // Whether the wanted request at an index is the asker's.
 fn is_own(wanted: &[Wanted<'_>], who: &[u8], place: usize) -> bool
@@ -51,52 +35,6 @@ fn own_count(wanted: &[Wanted<'_>], who: &[u8], places: &[usize]) -> usize
         rest = behind;
     }
     count
-}
-
-// Appends an abstraction as it is included, in a comment, to a text.
-fn push_include(name: &[u8], out: &mut Vec<u8>) -> Result<(), AllocError>
-    ensures { OnOk result (out.new.items ≡ out.old.items ++ include_text name.now) }
-{
-    out.extend_from_slice(b"#   include <")?;
-    push_shown(out, name)?;
-    out.extend_from_slice(b">")?;
-    Ok(())
-}
-
-// Appends how many of the wanted requests an abstraction allows to a text.
-fn push_let(number: usize, out: &mut Vec<u8>) -> Result<(), AllocError>
-    ensures { OnOk result (out.new.items ≡ out.old.items ++ let_text number) }
-{
-    push_number(out, " would let ", number)?;
-    out.extend_from_slice(b" of these")
-}
-
-// Appends the line of an abstraction that allows so many to a text.
-fn push_line(name: &[u8], number: usize, out: &mut Vec<u8>) -> Result<(), AllocError>
-    ensures { OnOk result (out.new.items ≡ out.old.items ++ offer_line name.now number) }
-{
-    push_include(name, out)?;
-    push_let(number, out)?;
-    out.push(b'\n')?;
-    Ok(())
-}
-
-// The record of an abstraction that allows so many of the asker's wanted requests, by the path of the asker's file.
-fn offer_record(
-    alloc: Global,
-    path: &[u8],
-    who: &[u8],
-    name: &[u8],
-    number: usize,
-) -> Result<Record, AllocError>
-    ensures { IfOk result (λ made. seen_record made ≡ offer_record path.now who.now name.now number) }
-{
-    let mut made = Record::new(alloc, "abstraction")?;
-    made.put_text(alloc, "name", name)?;
-    made.put_text(alloc, "profile", who)?;
-    made.put_text(alloc, "file", path)?;
-    made.put_number(alloc, "lets", number)?;
-    Ok(made)
 }
 
 // An abstraction that allows some of the asker's wanted requests.
@@ -153,47 +91,65 @@ fn push_others(number: usize, out: &mut Vec<u8>) -> Result<(), AllocError>
         return Ok(());
     }
     push_number(out, "#   and ", number)?;
-    out.extend_from_slice(b" more would let some of these")?;
-    out.push(b'\n')?;
-    Ok(())
+    out.extend_from_slice(b" more would let some of these\n")
 }
 
-// Appends the lines of some abstractions to a text.
-fn push_lines(offers: &[Offer<'_>], out: &mut Vec<u8>) -> Result<(), AllocError>
-    ensures { OnOk result (out.new.items ≡ out.old.items ++ flat_map offer_line_of (map seen_offer offers.now)) }
+// Appends an abstraction that allows some of the asker's wanted requests to a text, by the path of the asker's file.
+fn push_told<'x>(
+    teller: Teller,
+    path: &'x [u8],
+    who: &'x [u8],
+    offer: Offer<'x>,
+    out: &mut Vec<u8>,
+) -> Result<(), AllocError>
+    ensures { OnOk result (out.new.items ≡ out.old.items ++ offer_text teller.form path.now who.now (seen_offer offer.entry)) }
 {
-    let mut rest = offers;
-    while let [offer, behind @ ..] = rest {
-        push_line(offer.name, offer.number, out)?;
-        rest = behind;
-    }
-    Ok(())
+    tell(
+        teller,
+        "abstraction",
+        &[
+            Field::Words("#   include <"),
+            Field::Text("name", offer.name),
+            Field::Words("> would let "),
+            Field::Number("lets", offer.number),
+            Field::Words(" of these"),
+            Field::Member("profile", who),
+            Field::Member("file", path),
+        ],
+        out,
+    )
 }
 
-// Appends the records of some abstractions to a text.
-fn push_records(
-    alloc: Global,
+// Appends some abstractions to a text.
+fn push_each(
+    teller: Teller,
     path: &[u8],
     who: &[u8],
     offers: &[Offer<'_>],
     out: &mut Vec<u8>,
 ) -> Result<(), AllocError>
-    ensures { OnOk result (out.new.items ≡ out.old.items ++ flat_map (offer_record_of path.now who.now) (map seen_offer offers.now)) }
+    ensures { OnOk result (out.new.items ≡ out.old.items ++ flat_map (offer_text teller.form path.now who.now) (map seen_offer offers.now)) }
 {
     let mut rest = offers;
     while let [offer, behind @ ..] = rest {
-        offer_record(alloc, path, who, offer.name, offer.number)?.push(alloc, out)?;
+        push_told(teller, path, who, *offer, out)?;
         rest = behind;
     }
     Ok(())
 }
 
-// Appends the lines of the first few abstractions to a text, and how many more there are.
-fn push_first(offers: &[Offer<'_>], out: &mut Vec<u8>) -> Result<(), AllocError>
-    ensures { OnOk result (out.new.items ≡ out.old.items ++ offers_text form.Lines [] [] (map seen_offer offers.now)) }
+// Appends the first few abstractions to a text, and how many more there are.
+fn push_first(
+    teller: Teller,
+    path: &[u8],
+    who: &[u8],
+    offers: &[Offer<'_>],
+    out: &mut Vec<u8>,
+) -> Result<(), AllocError>
+    ensures { OnOk result (out.new.items ≡ out.old.items ++ first_offers teller.form path.now who.now (map seen_offer offers.now)) }
 {
     let told = offers.len().min(MOST_LINES);
-    push_lines(&offers[..told], out)?;
+    push_each(teller, path, who, &offers[..told], out)?;
     push_others(offers.len() - told, out)
 }
 
@@ -215,7 +171,7 @@ pub fn push_offers(
 {
     let offers = offers_of(telling, who)?;
     match telling.teller.form {
-        Form::Lines => push_first(&offers, out),
-        Form::Records => push_records(telling.teller.alloc, path, who, &offers, out),
+        Form::Lines => push_first(telling.teller, path, who, &offers, out),
+        Form::Records => push_each(telling.teller, path, who, &offers, out),
     }
 }

@@ -1,21 +1,17 @@
 //! Requests for which there is no rule to add, as they are printed.
 
-ghost use Rattle.std.specs.Prelude.{◌≡◌, ◌++◌, IfOk, OnOk, codes};
+ghost use Rattle.std.specs.Prelude.{◌≡◌, ◌++◌, OnOk};
 ghost use Rattle.aa_set_commands.specs.Question.{seen_question};
 ghost use Rattle.aatry_log_rules.specs.SeenWanted.{seen_wanted};
-ghost use Rattle.aatry_log_rules.specs.Unlet.{file_question, question_of, reason_words, unlet_line, unlet_record, unlet_text};
-ghost use Rattle.aatry_report.specs.Records.{with_text};
-ghost use Rattle.aatry_report.specs.SeenRecord.{seen_record};
-ghost use Rattle.aatry_requests.specs.Texts.{question_text};
+ghost use Rattle.aatry_log_rules.specs.Unlet.{file_question, no_rule_told, question_of, reason_words, unlet_text};
 
 use crate::finding::NoRule;
-use crate::found::push_asked;
 use crate::wanted::Wanted;
 use aa_profile_data::{Perms, Request};
 use aa_set_commands::Question;
-use aatry_report::{Form, Record, Teller};
-use aatry_requests::push_question;
-use std::alloc::{AllocError, Global};
+use aatry_report::{Field, Teller, tell};
+use aatry_requests::{push_question, push_times};
+use std::alloc::AllocError;
 
 // The words that say why there is no rule.
 fn reason_words(reason: NoRule) -> &'static str
@@ -55,49 +51,33 @@ pub fn question_of<'t>(wanted: &Wanted<'t>) -> Question<'t>
     }
 }
 
-// Appends the line of a question without a rule to a text.
-fn push_line(
-    reason: NoRule,
-    question: &Question<'_>,
-    times: u64,
+// Appends a question for which there is no rule to add to a text, by the reason, in words, and how often it was asked, in words and as a number.
+#[tactic(auto, unfolding(crate::specs::Unlet::no_rule_told))]
+fn push_no_rule<'x>(
+    teller: Teller,
+    reason: &'x str,
+    question: &'x [u8],
+    times: &'x [u8],
+    number: usize,
     out: &mut Vec<u8>,
 ) -> Result<(), AllocError>
-    ensures { OnOk result (out.new.items ≡ out.old.items ++ unlet_line reason (seen_question question.entry.now) times) }
+    ensures { OnOk result (out.new.items ≡ out.old.items ++ no_rule_told teller.form reason.now question.now times.now number) }
 {
-    out.extend_from_slice(b"# ")?;
-    out.extend_from_slice(reason_words(reason).as_bytes())?;
-    out.extend_from_slice(b": ")?;
-    push_question(out, question)?;
-    out.extend_from_slice(b", ")?;
-    push_asked(times, out)?;
-    out.push(b'\n')?;
-    Ok(())
-}
-
-// Puts a question into a record.
-fn put_question(alloc: Global, question: &Question<'_>, into: &mut Record) -> Result<(), AllocError>
-    ensures { OnOk result (seen_record into.new
-        ≡ with_text (codes "question") (question_text (seen_question question.entry.now)) (seen_record into.old)) }
-{
-    let mut text = Vec::new(alloc);
-    push_question(&mut text, question)?;
-    into.put_text(alloc, "question", &text)
-}
-
-// The record of a question without a rule.
-fn unlet_record(
-    alloc: Global,
-    reason: NoRule,
-    question: &Question<'_>,
-    times: u64,
-) -> Result<Record, AllocError>
-    ensures { IfOk result (λ made. seen_record made ≡ unlet_record reason (seen_question question.entry.now) times) }
-{
-    let mut made = Record::new(alloc, "no_rule")?;
-    put_question(alloc, question, &mut made)?;
-    made.put_text(alloc, "reason", reason_words(reason).as_bytes())?;
-    made.put_number(alloc, "times", times as usize)?;
-    Ok(made)
+    tell(
+        teller,
+        "no_rule",
+        &[
+            Field::Words("# "),
+            Field::Word("reason", reason),
+            Field::Words(": "),
+            Field::Bytes(question),
+            Field::Member("question", question),
+            Field::Words(", asked "),
+            Field::Bytes(times),
+            Field::MemberNumber("times", number),
+        ],
+        out,
+    )
 }
 
 /// Appends a question for which there is no rule to add to a text, with the reason, and how often it was asked: a comment, or a record of the kind
@@ -115,11 +95,16 @@ pub fn push_unlet(
 ) -> Result<(), AllocError>
     ensures { OnOk result (out.new.items ≡ out.old.items ++ unlet_text teller.form reason (seen_question question.entry.now) times) }
 {
-    match teller.form {
-        Form::Lines => push_line(reason, question, times, out),
-        Form::Records => unlet_record(teller.alloc, reason, question, times)?.push(
-            teller.alloc,
-            out,
-        ),
-    }
+    let mut text = Vec::new(teller.alloc);
+    push_question(&mut text, question)?;
+    let mut asked = Vec::new(teller.alloc);
+    push_times(&mut asked, times)?;
+    push_no_rule(
+        teller,
+        reason_words(reason),
+        &text,
+        &asked,
+        times as usize,
+        out,
+    )
 }

@@ -1,12 +1,8 @@
 -- What is told whether a program that somebody starts ever runs unconfined (docs/aatry.md, "`aatry never exec`").
 use Rattle.std.specs.Prelude.{ℕ, Bool, true, false, if◌then◌else◌, List, [], ◌∷◌, ◌++◌, codes, flat_map, slice_get, Option, None, Some}
 use Rattle.std.specs.List.{list_any}
-use Rattle.std.specs.Fmt.{decimal}
-use Rattle.serde_json.specs.Data.{Members}
-use Rattle.aa_bytes.specs.Bytes.{line_feed}
 use Rattle.aa_decide_ready.specs.Entries.{Loaded}
 use Rattle.aa_explain_reach.specs.declared.reached.Reached.{Reached as Node}
-use Rattle.aatry_changes.specs.Changes.{headed_record}
 use Rattle.aatry_never_exec.specs.Chain.{answer_of, chain_to}
 use Rattle.aatry_reach.specs.Finding.{Found}
 use Rattle.aatry_reach.specs.Telling.{node_told}
@@ -14,47 +10,25 @@ use Rattle.aatry_never_exec.specs.declared.chain.Answer.{Answer}
 use Rattle.aatry_never_exec.specs.declared.chain.Answer.TheVariants as answer
 use Rattle.aatry_reach.specs.declared.finding.Finding.{Finding}
 use Rattle.aatry_reach.specs.declared.finding.Finding.TheVariants.{Absent, Reached}
-use Rattle.aatry_report.specs.Records.{record_line, with_number, with_text}
-use Rattle.aatry_report.specs.Shown.{shown}
+use Rattle.aatry_report.specs.Fields.{Number, Text, Word, Words, told}
 use Rattle.aatry_report.specs.declared.form.Form.{Form}
-use Rattle.aatry_report.specs.declared.form.Form.TheVariants.{Lines, Records}
 
--- an answer in a word
-abbrev pub answer_word : Answer → List ℕ
-answer_word answer.Absent = codes "absent"
-answer_word (answer.Never count) = codes "never"
-answer_word (answer.Runs number) = codes "no"
-answer_word answer.Many = codes "many"
-
--- a program may run unconfined
-unfoldable pub runs_sentence : List ℕ → List ℕ
-runs_sentence name = codes "a program that " ++ shown name ++ codes " starts may run unconfined"
-
--- an answer in a sentence
-unfoldable pub sentence : List ℕ → Answer → List ℕ
-sentence name answer.Absent = codes "nobody has the name " ++ shown name
-sentence name (answer.Never count) =
-    codes "no program that " ++ shown name ++ codes " starts ever runs unconfined (places: " ++ decimal count ++ codes ")"
-sentence name (answer.Runs number) = runs_sentence name
-sentence name answer.Many = codes "it isn't known whether a program that " ++ shown name ++ codes " starts ever runs unconfined"
-
--- the line of who is asked about
-unfoldable pub answer_line : List ℕ → Answer → List ℕ
-answer_line name answer = answer_word answer ++ codes ": " ++ sentence name answer ++ line_feed ∷ []
-
--- a record, with how many places are reached, where no program runs unconfined
-abbrev pub with_places : Answer → Members → Members
-with_places answer.Absent members = members
-with_places (answer.Never count) members = with_number (codes "places") count members
-with_places (answer.Runs number) members = members
-with_places answer.Many members = members
-
-unfoldable pub answer_record : List ℕ → Answer → Members
-answer_record name answer = with_places answer (with_text (codes "answer") (answer_word answer) (headed_record (codes "exec") name))
-
+-- the answer for who is asked about, in a word and a sentence
 abbrev pub answer_told : Form → List ℕ → Answer → List ℕ
-answer_told Lines name answer = answer_line name answer
-answer_told Records name answer = record_line (answer_record name answer)
+answer_told form name answer.Absent =
+    told form (codes "exec")
+    (Word (codes "answer") (codes "absent") ∷ Words (codes ": nobody has the name ") ∷ Text (codes "name") name ∷ [])
+answer_told form name (answer.Never count) =
+    told form (codes "exec")
+    (Word (codes "answer") (codes "never") ∷ Words (codes ": no program that ") ∷ Text (codes "name") name
+    ∷ Words (codes " starts ever runs unconfined (places: ") ∷ Number (codes "places") count ∷ Words (codes ")") ∷ [])
+answer_told form name (answer.Runs number) =
+    told form (codes "exec")
+    (Word (codes "answer") (codes "no") ∷ Words (codes ": a program that ") ∷ Text (codes "name") name ∷ Words (codes " starts may run unconfined") ∷ [])
+answer_told form name answer.Many =
+    told form (codes "exec")
+    (Word (codes "answer") (codes "many") ∷ Words (codes ": it isn't known whether a program that ") ∷ Text (codes "name") name
+    ∷ Words (codes " starts ever runs unconfined") ∷ [])
 
 -- what `aatry reach` tells of the node of a number
 abbrev pub link_told : Form → List (Option Loaded) → List ℕ → List Node → Option Node → List ℕ
@@ -80,12 +54,12 @@ chain_of form slots name Absent = []
 chain_of form slots name (Reached reach) = chain_by form slots name reach.nodes.items (answer_of (Reached reach))
 
 -- what is told of a name: the answer, and below it the chain, unless names alone are to be told
-abbrev pub told : Form → Bool → List (Option Loaded) → Found → List ℕ
-told form names slots found =
+abbrev pub found_told : Form → Bool → List (Option Loaded) → Found → List ℕ
+found_told form names slots found =
     answer_told form found.name (answer_of found.finding) ++ (if names then [] else chain_of form slots found.name found.finding)
 
 abbrev pub all_told : Form → Bool → List (Option Loaded) → List Found → List ℕ
-all_told form names slots found = flat_map (told form names slots) found
+all_told form names slots found = flat_map (found_told form names slots) found
 
 -- a program runs unconfined, or nobody has the name
 abbrev pub is_refuting : Answer → Bool

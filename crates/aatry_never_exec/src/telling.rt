@@ -1,121 +1,19 @@
 //! What is told whether a program that somebody starts ever runs unconfined, in lines and in records.
 
-ghost use Rattle.std.specs.Prelude.{◌≡◌, ◌++◌, IfOk, OnOk, flat_map, map};
+ghost use Rattle.std.specs.Prelude.{◌≡◌, ◌++◌, OnOk, map};
 ghost use Rattle.std.specs.Option.{option_copied};
 ghost use Rattle.aatry_never_exec.specs.Chain.{answer_of};
-ghost use Rattle.aatry_never_exec.specs.Telling.{all_told, answer_line, answer_record, answer_told, answer_word, chain_by, chain_of, chain_told, has_many, is_many, is_refuted, is_refuting, link_told, number_told, runs_sentence, sentence, told, with_places};
-ghost use Rattle.aatry_never_exec.specs.declared.chain.Answer.TheVariants.{Absent, Many, Never};
+ghost use Rattle.aatry_never_exec.specs.Telling.{all_told, answer_told, chain_by, chain_of, chain_told, found_told, has_many, is_many, is_refuted, is_refuting, link_told, number_told};
 ghost use Rattle.aatry_reach.specs.Finding.{seen_found};
-ghost use Rattle.aatry_report.specs.SeenRecord.{seen_record};
 
 use crate::chain::{Answer, answer_of, chain_to};
 use aa_decide::IndexedSlots;
 use aa_explain_reach::Reached;
-use aatry_changes::headed_record;
 use aatry_reach::{Finding, Found, push_node};
-use aatry_report::{Form, Record, Teller, push_number, push_shown};
-use std::alloc::{AllocError, Global};
+use aatry_report::{Field, Teller, tell};
+use std::alloc::AllocError;
 
-// An answer in a word.
-fn answer_word(answer: Answer) -> &'static str
-    ensures { result.now ≡ answer_word answer }
-{
-    match answer {
-        Answer::Absent => "absent",
-        Answer::Never(_) => "never",
-        Answer::Runs(_) => "no",
-        Answer::Many => "many",
-    }
-}
-
-// Appends that nobody has a name to a text.
-#[tactic(auto, unfolding(crate::specs::Telling::sentence))]
-fn push_nobody(name: &[u8], out: &mut Vec<u8>) -> Result<(), AllocError>
-    ensures { OnOk result (out.new.items ≡ out.old.items ++ sentence name.now Absent) }
-{
-    out.extend_from_slice(b"nobody has the name ")?;
-    push_shown(out, name)
-}
-
-// Appends that no program ever runs unconfined, and how many places are reached.
-#[tactic(auto, unfolding(crate::specs::Telling::sentence))]
-fn push_never(name: &[u8], count: usize, out: &mut Vec<u8>) -> Result<(), AllocError>
-    ensures { OnOk result (out.new.items ≡ out.old.items ++ sentence name.now (Never count)) }
-{
-    out.extend_from_slice(b"no program that ")?;
-    push_shown(out, name)?;
-    push_number(out, " starts ever runs unconfined (places: ", count)?;
-    out.extend_from_slice(b")")
-}
-
-// Appends that one may.
-#[tactic(auto, unfolding(crate::specs::Telling::runs_sentence))]
-fn push_runs(name: &[u8], out: &mut Vec<u8>) -> Result<(), AllocError>
-    ensures { OnOk result (out.new.items ≡ out.old.items ++ runs_sentence name.now) }
-{
-    out.extend_from_slice(b"a program that ")?;
-    push_shown(out, name)?;
-    out.extend_from_slice(b" starts may run unconfined")?;
-    Ok(())
-}
-
-// Appends that it isn't known whether one does.
-#[tactic(auto, unfolding(crate::specs::Telling::sentence))]
-fn push_many(name: &[u8], out: &mut Vec<u8>) -> Result<(), AllocError>
-    ensures { OnOk result (out.new.items ≡ out.old.items ++ sentence name.now Many) }
-{
-    out.extend_from_slice(b"it isn't known whether a program that ")?;
-    push_shown(out, name)?;
-    out.extend_from_slice(b" starts ever runs unconfined")
-}
-
-// Appends the sentence of an answer to a text.
-#[tactic(auto, unfolding(crate::specs::Telling::sentence))]
-fn push_sentence(name: &[u8], answer: Answer, out: &mut Vec<u8>) -> Result<(), AllocError>
-    ensures { OnOk result (out.new.items ≡ out.old.items ++ sentence name.now answer) }
-{
-    match answer {
-        Answer::Absent => push_nobody(name, out),
-        Answer::Never(count) => push_never(name, count, out),
-        Answer::Runs(_) => push_runs(name, out),
-        Answer::Many => push_many(name, out),
-    }
-}
-
-// Appends the line of who is asked about.
-#[tactic(auto, unfolding(crate::specs::Telling::answer_line))]
-fn push_answer_line(name: &[u8], answer: Answer, out: &mut Vec<u8>) -> Result<(), AllocError>
-    ensures { OnOk result (out.new.items ≡ out.old.items ++ answer_line name.now answer) }
-{
-    out.extend_from_slice(answer_word(answer).as_bytes())?;
-    out.extend_from_slice(b": ")?;
-    push_sentence(name, answer, out)?;
-    out.push(b'\n')?;
-    Ok(())
-}
-
-// Puts how many places are reached into a record, where no program runs unconfined.
-fn put_places(alloc: Global, answer: Answer, into: &mut Record) -> Result<(), AllocError>
-    ensures { OnOk result (seen_record into.new ≡ with_places answer (seen_record into.old)) }
-{
-    match answer {
-        Answer::Never(count) => into.put_number(alloc, "places", count),
-        Answer::Absent | Answer::Runs(_) | Answer::Many => Ok(()),
-    }
-}
-
-// The record of who is asked about.
-#[tactic(auto, unfolding(crate::specs::Telling::answer_record))]
-fn answer_record(alloc: Global, name: &[u8], answer: Answer) -> Result<Record, AllocError>
-    ensures { IfOk result (λ made. seen_record made ≡ answer_record name.now answer) }
-{
-    let mut made = headed_record(alloc, "exec", name)?;
-    made.put_text(alloc, "answer", answer_word(answer).as_bytes())?;
-    put_places(alloc, answer, &mut made)?;
-    Ok(made)
-}
-
-// Appends what is told of it.
+// Appends the answer for who is asked about to a text, in a word and a sentence.
 fn push_answer(
     teller: Teller,
     name: &[u8],
@@ -124,9 +22,52 @@ fn push_answer(
 ) -> Result<(), AllocError>
     ensures { OnOk result (out.new.items ≡ out.old.items ++ answer_told teller.form name.now answer) }
 {
-    match teller.form {
-        Form::Lines => push_answer_line(name, answer, out),
-        Form::Records => answer_record(teller.alloc, name, answer)?.push(teller.alloc, out),
+    match answer {
+        Answer::Absent => tell(
+            teller,
+            "exec",
+            &[
+                Field::Word("answer", "absent"),
+                Field::Words(": nobody has the name "),
+                Field::Text("name", name),
+            ],
+            out,
+        ),
+        Answer::Never(count) => tell(
+            teller,
+            "exec",
+            &[
+                Field::Word("answer", "never"),
+                Field::Words(": no program that "),
+                Field::Text("name", name),
+                Field::Words(" starts ever runs unconfined (places: "),
+                Field::Number("places", count),
+                Field::Words(")"),
+            ],
+            out,
+        ),
+        Answer::Runs(_) => tell(
+            teller,
+            "exec",
+            &[
+                Field::Word("answer", "no"),
+                Field::Words(": a program that "),
+                Field::Text("name", name),
+                Field::Words(" starts may run unconfined"),
+            ],
+            out,
+        ),
+        Answer::Many => tell(
+            teller,
+            "exec",
+            &[
+                Field::Word("answer", "many"),
+                Field::Words(": it isn't known whether a program that "),
+                Field::Text("name", name),
+                Field::Words(" starts ever runs unconfined"),
+            ],
+            out,
+        ),
     }
 }
 
@@ -226,7 +167,7 @@ fn push_told(
     found: &Found<'_, '_>,
     out: &mut Vec<u8>,
 ) -> Result<(), AllocError>
-    ensures { OnOk result (out.new.items ≡ out.old.items ++ told teller.form names slots.now (seen_found found.now)) }
+    ensures { OnOk result (out.new.items ≡ out.old.items ++ found_told teller.form names slots.now (seen_found found.now)) }
 {
     push_answer(teller, found.name, answer_of(&found.finding), out)?;
     if names {

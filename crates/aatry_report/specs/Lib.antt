@@ -5,8 +5,10 @@ pub mod Faults
 pub mod FilePlaces
 pub mod Headings
 pub mod Lines
+pub mod Fields
 pub mod Records
 pub mod Refusals
+pub mod SeenFields
 pub mod SeenRecord
 pub mod Shown
 pub mod Taken

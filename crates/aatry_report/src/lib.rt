@@ -20,6 +20,7 @@ mod record;
 mod refusals;
 mod shown;
 mod taken;
+mod telling;
 mod texts;
 mod words;
 
@@ -36,4 +37,5 @@ pub use record::Record;
 pub use refusals::{push_named_refusal, push_placed_refusal, put_named_refusal};
 pub use shown::{push_shown, push_shown_lines};
 pub use taken::push_taken;
+pub use telling::{Field, tell};
 pub use words::words_of;

@@ -1,17 +1,16 @@
 //! The report on changes that several profiles have in common.
 
 ghost use Rattle.std.specs.Prelude.{◌≡◌, ◌++◌, IfOk, OnOk, flat_map, slice_get};
-ghost use Rattle.aatry_report.specs.SeenRecord.{seen_record};
+ghost use Rattle.aatry_report.specs.SeenFields.{seen_field};
 ghost use Rattle.aatry_shared.specs.SeenSharing.{seen_change, seen_group, seen_names};
-ghost use Rattle.aatry_shared.specs.SharedLines.{change_line, group_text, names_text, next_name, shared_line, shared_lines, shared_record, shared_text, sharers_line};
+ghost use Rattle.aatry_shared.specs.SharedLines.{group_text, names_text, next_name, shared_lines, shared_text, sharers_text, written_text};
 ghost use Rattle.aatry_shared.specs.code.Steps.{group_text_at, text_by_side};
 
-use crate::change::Change;
 use crate::sharing::{Group, Sharing, are_several};
 use crate::side::{Finders, Side, kind_of, sign_of};
-use aatry_report::{Form, Record, Teller, push_number, push_shown};
-use aatry_why_lines::{Finder, push_where, put_where};
-use std::alloc::AllocError;
+use aatry_report::{Field, Teller, push_number, push_shown, tell};
+use aatry_why_lines::{Finder, where_of};
+use std::alloc::{AllocError, Global};
 
 // Appends names to a text, each after a comma.
 fn push_next_names(names: &[&[u8]], out: &mut Vec<u8>) -> Result<(), AllocError>
@@ -39,60 +38,43 @@ fn push_names(names: &[&[u8]], out: &mut Vec<u8>) -> Result<(), AllocError>
     }
 }
 
-// Appends the line to a text that says how many profiles, children and hats have a change, and which.
-fn push_sharers(names: &[&[u8]], out: &mut Vec<u8>) -> Result<(), AllocError>
-    ensures { OnOk result (out.new.items ≡ out.old.items ++ sharers_line (seen_names names.now)) }
+// How many profiles, children and hats have a change, and which.
+fn sharers_text(alloc: Global, names: &[&[u8]]) -> Result<Vec<u8>, AllocError>
+    ensures { IfOk result (λ text. text.items ≡ sharers_text (seen_names names.now)) }
 {
-    push_number(out, "  in ", names.len())?;
-    out.extend_from_slice(b" profiles: ")?;
-    push_names(names, out)?;
-    out.push(b'\n')?;
-    Ok(())
+    let mut text = Vec::new(alloc);
+    push_number(&mut text, "  in ", names.len())?;
+    text.extend_from_slice(b" profiles: ")?;
+    push_names(names, &mut text)?;
+    Ok(text)
 }
 
-// Appends the line of a change to a text.
-fn push_change(
-    finder: &mut Finder<'_>,
-    change: &Change,
+// Appends a change and the names that have it to a text, by where its rule is written, and by who has it, in words.
+fn push_written<'x>(
+    teller: Teller,
+    group: &'x Group<'_, '_>,
+    place: Field<'x>,
+    sharers: &'x [u8],
     out: &mut Vec<u8>,
 ) -> Result<(), AllocError>
-    ensures told { OnOk result (out.new.items ≡ out.old.items ++ change_line finder.old (seen_change change.now)) }
-    ensures same { finder.new ≡ finder.old }
+    ensures { OnOk result (out.new.items ≡ out.old.items ++ written_text teller.form (seen_group group.now) (seen_field place.entry) sharers.now) }
 {
-    out.extend_from_slice(sign_of(change.side).as_bytes())?;
-    push_where(finder, b"", Some(change.place), out)?;
-    push_shown(out, &change.text)?;
-    out.push(b'\n')?;
-    Ok(())
+    tell(
+        teller,
+        kind_of(group.change.side),
+        &[
+            Field::Words(sign_of(group.change.side)),
+            place,
+            Field::Text("text", &group.change.text),
+            Field::Words("\n"),
+            Field::Bytes(sharers),
+            Field::MemberTexts("profiles", group.names),
+        ],
+        out,
+    )
 }
 
-// Appends a change and the names that have it to a text, as lines.
-fn push_line(
-    finder: &mut Finder<'_>,
-    group: &Group<'_, '_>,
-    out: &mut Vec<u8>,
-) -> Result<(), AllocError>
-    ensures told { OnOk result (out.new.items ≡ out.old.items ++ shared_line finder.old (seen_group group.now)) }
-    ensures same { finder.new ≡ finder.old }
-{
-    push_change(finder, group.change, out)?;
-    push_sharers(group.names, out)
-}
-
-// The record of a change and of the names that have it.
-fn shared_record(finder: &mut Finder<'_>, group: &Group<'_, '_>) -> Result<Record, AllocError>
-    ensures told { IfOk result (λ made. seen_record made ≡ shared_record finder.old (seen_group group.now)) }
-    ensures same { finder.new ≡ finder.old }
-{
-    let alloc = finder.alloc();
-    let mut made = Record::new(alloc, kind_of(group.change.side))?;
-    made.put_texts(alloc, "profiles", group.names)?;
-    put_where(finder, b"", Some(group.change.place), &mut made)?;
-    made.put_text(alloc, "text", &group.change.text)?;
-    Ok(made)
-}
-
-// Appends a change and the names that have it to a text, as lines or a record.
+// Appends a change and the names that have it to a text.
 fn push_text(
     finder: &mut Finder<'_>,
     teller: Teller,
@@ -102,10 +84,9 @@ fn push_text(
     ensures told { OnOk result (out.new.items ≡ out.old.items ++ shared_text teller.form finder.old (seen_group group.now)) }
     ensures same { finder.new ≡ finder.old }
 {
-    match teller.form {
-        Form::Lines => push_line(finder, group, out),
-        Form::Records => shared_record(finder, group)?.push(teller.alloc, out),
-    }
+    let found = where_of(finder, b"", Some(group.change.place))?;
+    let sharers = sharers_text(teller.alloc, group.names)?;
+    push_written(teller, group, found.field(), &sharers, out)
 }
 
 // Appends a change and the names that have it to a text, by the files of its side.
@@ -161,7 +142,7 @@ fn push_group_at(
 
 /// Appends the changes that two or more profiles, children and hats have to a text, in the order in which they first came, each once. As a line it
 /// follows the side's sign, with where the rule is written, and below it how many have it and their full names. As a record of the kind `less` or
-/// `more` it has these names (`profiles`), where the rule is written (`aatry_why_lines::put_where`), and its text (`text`).
+/// `more` it has these names (`profiles`), where the rule is written (`aatry_why_lines::where_of`), and its text (`text`).
 ///
 /// # Errors
 ///

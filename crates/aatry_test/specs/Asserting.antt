@@ -9,12 +9,13 @@ use Rattle.aatry_test.specs.Claims.{claimed_of}
 use Rattle.aatry_claims.specs.Claimed.{Claimed}
 use Rattle.aatry_claims.specs.Found.{AreFound, Found, asked_of, names_or}
 use Rattle.aatry_claims.specs.Patterns.{asked_patterns}
-use Rattle.aatry_claims.specs.Sentences.{found_line, is_held}
+use Rattle.aatry_claims.specs.Sentences.{found_told, is_held}
 use Rattle.aatry_policy.specs.Parts.{Part, set_parts}
+use Rattle.aatry_report.specs.declared.form.Form.TheVariants.{Lines}
 
 -- the line on a name for which a claim doesn't hold: that of `aatry never` or `always`
 abbrev pub unheld_line : Claimed → Found → List ℕ
-unheld_line claimed found = if is_held found.finding then [] else codes "+ " ++ found_line claimed found
+unheld_line claimed found = if is_held found.finding then [] else codes "+ " ++ found_told Lines claimed found
 
 abbrev pub unheld_lines : Claimed → List Found → List ℕ
 unheld_lines claimed found = flat_map (unheld_line claimed) found

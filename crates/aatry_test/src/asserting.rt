@@ -16,8 +16,11 @@ use aa_profile_parsing::Language;
 use aa_set_commands::Words;
 use aa_set_manager::PolicySet;
 use aa_text_files::Files;
-use aatry_claims::{Claimed, Found, Inquiry, asked_patterns, every_rule, find, is_held, push_line};
+use aatry_claims::{
+    Claimed, Found, Inquiry, asked_patterns, every_rule, find, is_held, push_found,
+};
 use aatry_policy::{Part, parts_of};
+use aatry_report::{Form, Teller};
 use std::alloc::{AllocError, Global};
 
 // How many sets of states are looked at, at most, for each name that is asked about: as many as by `aatry never` where no limit is given.
@@ -25,6 +28,7 @@ const MOST_SETS: usize = 262_144;
 
 // Appends the line on a name for which a claim doesn't hold to a text, and returns whether it holds.
 fn push_unheld(
+    alloc: Global,
     claimed: Claimed<'_>,
     found: &Found<'_>,
     out: &mut Vec<u8>,
@@ -35,13 +39,19 @@ fn push_unheld(
     if is_held(&found.finding) {
         return Ok(true);
     }
+    let teller = Teller {
+        alloc,
+        form: Form::Lines,
+        verbose: false,
+    };
     out.extend_from_slice(b"+ ")?;
-    push_line(claimed, found, out)?;
+    push_found(teller, claimed, found, out)?;
     Ok(false)
 }
 
 // Appends the lines on all names for which a claim doesn't hold to a text, and returns whether it holds for all.
 fn push_all_unheld(
+    alloc: Global,
     claimed: Claimed<'_>,
     found: &[Found<'_>],
     out: &mut Vec<u8>,
@@ -52,7 +62,7 @@ fn push_all_unheld(
     let mut all = true;
     let mut rest = found;
     while let [one, behind @ ..] = rest {
-        let held = push_unheld(claimed, one, out)?;
+        let held = push_unheld(alloc, claimed, one, out)?;
         all = all && held;
         rest = behind;
     }
@@ -84,7 +94,7 @@ fn push_asked(
         all: &all,
     };
     let found = find(alloc, inquiry, claimed.words.whom)?;
-    push_all_unheld(claimed, &found, out)
+    push_all_unheld(alloc, claimed, &found, out)
 }
 
 // Appends the report on a claim, asked of a policy set, to a text, where it doesn't hold, and returns whether it holds.

@@ -1,93 +1,60 @@
 //! The report on profiles of files that are left out, on which an answer could depend.
 
-ghost use Rattle.std.specs.Prelude.{◌≡◌, ◌++◌, IfOk, OnOk, None, flat_map, option_map};
-ghost use Rattle.aatry_report.specs.SeenRecord.{seen_record};
+ghost use Rattle.std.specs.Prelude.{◌≡◌, ◌++◌, OnOk, None, flat_map, option_map};
+ghost use Rattle.aatry_report.specs.SeenFields.{seen_field};
 ghost use Rattle.aatry_uncertain.specs.SeenHeads.{all_left_out, seen_left_out};
-ghost use Rattle.aatry_uncertain.specs.Told.{by_attachment, name_lines, name_text, profile_text, start_lines, start_text};
-ghost use Rattle.aatry_uncertain.specs.Told.{unsure_line, unsure_record, unsure_text, with_pattern};
+ghost use Rattle.aatry_uncertain.specs.Told.{attachment, attachment_words, name_lines, name_text, profile_text, start_lines, start_text, unsure_text};
 
 use crate::fitting::may_fit;
 use crate::left_out::{LeftOutHead, LeftOutHeads};
-use aa_bytes::push_text;
 use aa_profile_data::cut_full_name;
-use aatry_report::{Form, Record, Teller, path_below, push_shown};
-use std::alloc::{AllocError, Global};
+use aatry_report::{Field, Teller, path_below, tell};
+use std::alloc::AllocError;
 
-// Appends the pattern by which a profile may attach to a line, if it is given.
-fn push_attachment(pattern: Option<&[u8]>, out: &mut Vec<u8>) -> Result<(), AllocError>
-    ensures { OnOk result (out.new.items ≡ out.old.items ++ by_attachment (option_map (λ text. text.now) pattern.entry)) }
+// The words before the pattern by which a profile may attach, if it is given.
+fn attachment_words<'x>(pattern: Option<&[u8]>) -> Field<'x>
+    ensures { seen_field result ≡ attachment_words (option_map (λ text. text.now) pattern.entry) }
 {
     match pattern {
-        None => Ok(()),
-        Some(pattern) => {
-            out.extend_from_slice(b", which may be attached by ")?;
-            push_text(out, pattern)?;
-            Ok(())
-        }
+        None => Field::Words(""),
+        Some(_) => Field::Words(", which may be attached by "),
     }
 }
 
-// Appends the line of a profile of a file that is left out to a text, by the file's path.
-fn push_line(
-    path: &[u8],
-    name: &[u8],
-    pattern: Option<&[u8]>,
-    out: &mut Vec<u8>,
-) -> Result<(), AllocError>
-    ensures { OnOk result (out.new.items ≡ out.old.items ++ unsure_line path.now name.now (option_map (λ text. text.now) pattern.entry)) }
-{
-    out.extend_from_slice(b"uncertain: ")?;
-    push_shown(out, path)?;
-    out.extend_from_slice(b" is left out, with the profile ")?;
-    push_text(out, name)?;
-    push_attachment(pattern, out)?;
-    out.push(b'\n')?;
-    Ok(())
-}
-
-// Puts the pattern into a record, if it is given.
-fn put_pattern(alloc: Global, pattern: Option<&[u8]>, into: &mut Record) -> Result<(), AllocError>
-    ensures { OnOk result (seen_record into.new ≡ with_pattern (option_map (λ text. text.now) pattern.entry) (seen_record into.old)) }
+// The pattern, if it is given.
+fn attachment(pattern: Option<&[u8]>) -> Field<'_>
+    ensures { seen_field result ≡ attachment (option_map (λ text. text.now) pattern.entry) }
 {
     match pattern {
-        None => Ok(()),
-        Some(pattern) => into.put_text(alloc, "pattern", pattern),
+        None => Field::Words(""),
+        Some(pattern) => Field::Quoted("pattern", pattern),
     }
 }
 
-// The record of a profile of a file that is left out.
-fn unsure_record(
-    alloc: Global,
-    path: &[u8],
-    name: &[u8],
-    pattern: Option<&[u8]>,
-) -> Result<Record, AllocError>
-    ensures { IfOk result (λ made. seen_record made ≡ unsure_record path.now name.now (option_map (λ text. text.now) pattern.entry)) }
-{
-    let mut made = Record::new(alloc, "uncertain")?;
-    made.put_text(alloc, "file", path)?;
-    made.put_text(alloc, "name", name)?;
-    put_pattern(alloc, pattern, &mut made)?;
-    Ok(made)
-}
-
-// Appends a profile of a file that is left out to a text, by the file's path, as a line or a record.
-fn push_unsure(
+// Appends a profile of a file that is left out to a text, by the file's path.
+fn push_unsure<'x>(
     teller: Teller,
-    path: &[u8],
-    name: &[u8],
-    pattern: Option<&[u8]>,
+    path: &'x [u8],
+    name: &'x [u8],
+    pattern: Option<&'x [u8]>,
     out: &mut Vec<u8>,
 ) -> Result<(), AllocError>
     ensures { OnOk result (out.new.items
         ≡ out.old.items ++ unsure_text teller.form path.now name.now (option_map (λ text. text.now) pattern.entry)) }
 {
-    match teller.form {
-        Form::Lines => push_line(path, name, pattern, out),
-        Form::Records => {
-            unsure_record(teller.alloc, path, name, pattern)?.push(teller.alloc, out)
-        }
-    }
+    tell(
+        teller,
+        "uncertain",
+        &[
+            Field::Words("uncertain: "),
+            Field::Text("file", path),
+            Field::Words(" is left out, with the profile "),
+            Field::Quoted("name", name),
+            attachment_words(pattern),
+            attachment(pattern),
+        ],
+        out,
+    )
 }
 
 // Appends a profile of a file that is left out to a text, if it may attach to a path.

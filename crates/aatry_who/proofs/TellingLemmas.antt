@@ -1,11 +1,11 @@
 -- What is told of who is loaded goes by the answer that a question of its full name is given.
 use Rattle.std.proofs.Common.{◌≡◌, ℕ, Bool, true, false, not, List, [], ◌∷◌, ◌++◌, Option, None, Some, Ok, Err, refl, ap, ◌∙◌}
-use Rattle.std.specs.Prelude.{codes, if◌then◌else◌}
+use Rattle.std.specs.Prelude.{codes, flat_map, if◌then◌else◌}
 use Rattle.serde_json.specs.Data.{object}
 use Rattle.serde_json.specs.Written.{compact_text}
 use Rattle.aa_bytes.specs.Bytes.{line_feed}
 use Rattle.aa_bytes.specs.Texts.{is_empty}
-use Rattle.aa_decide.specs.Exec.{Asker, Started}
+use Rattle.aa_decide.specs.Exec.{Asker}
 use Rattle.aa_decide_ready.specs.Entries.{Loaded}
 use Rattle.aa_set_answers.specs.Answers.{answered, told_by}
 use Rattle.aa_set_answers.specs.Askers.{asker}
@@ -16,13 +16,15 @@ use Rattle.aa_set_commands.specs.Question.{OfAccess, OfExec, Question}
 use Rattle.aa_set_commands.specs.Refusal.{plain}
 use Rattle.aa_set_commands.specs.declared.refusal.RefusalKind.TheVariants.{Absent}
 use Rattle.aatry_policy.specs.Folders.{Folder, policy_in}
-use Rattle.aatry_report.specs.Shown.{shown}
+use Rattle.aatry_report.specs.Fields.{Said, in_line, told, with_fields}
+use Rattle.aatry_report.specs.Records.{record_of}
 use Rattle.aatry_report.specs.declared.form.Form.{Form}
 use Rattle.aatry_report.specs.declared.form.Form.TheVariants.{Lines, Records}
 use Rattle.aatry_requests.specs.Questions.{asked_as}
 use Rattle.aatry_who.specs.Laws.{IsToldByAnswer}
-use Rattle.aatry_who.specs.Letting.{answer_lines, by_rules, let_line, let_record, lets_through, named_lines, told_lines}
+use Rattle.aatry_who.specs.Letting.{answer_lines, by_rules, lets_through, named_lines, told_lines}
 use Rattle.aatry_who.specs.Sought.{Sought, led, sought_in}
+use Rattle.aatry_who.specs.Telling.{let_line}
 
 -- what is known of names
 abbrev pub NamesLeadBack : Type 0
@@ -47,16 +49,16 @@ line-ended : (front behind : List ℕ) → is_empty ((front ++ line_feed ∷ [])
 line-ended [] behind = refl
 line-ended (byte ∷ front) behind = refl
 
-line-there : (form : Form) (name text : List ℕ) (to : Option Started) (behind : List ℕ) → is_empty (let_line form name text to ++ behind) ≡ false
-line-there Lines name text to behind = line-ended (shown name ++ codes ": " ++ text) behind
-line-there Records name text to behind = line-ended (compact_text (object (let_record name text to))) behind
+told-there : (form : Form) (kind : List ℕ) (fields : List Said) (behind : List ℕ) → is_empty (told form kind fields ++ behind) ≡ false
+told-there Lines kind fields behind = line-ended (flat_map in_line fields) behind
+told-there Records kind fields behind = line-ended (compact_text (object (with_fields fields (record_of kind)))) behind
 
 -- something is told exactly where the answer lets it through
 told-where-let : (form : Form) (sought : Sought) (name : List ℕ) (told : Answered) → is_empty (told_lines form sought name told) ≡ not (lets_through told.answer)
 told-where-let form sought name told = by (lets_through told.answer)
   where
     by : (lets : Bool) → is_empty (if lets then let_line form name told.text (led sought name told.answer) ++ by_rules form sought name told.answer else []) ≡ not lets
-    by true = line-there form name told.text (led sought name told.answer) (by_rules form sought name told.answer)
+    by true = told-there form (codes "let") _ (by_rules form sought name told.answer)
     by false = refl
 
 -- what is told of who is loaded

@@ -1,8 +1,5 @@
 -- Which profiles, children and hats would let a request through (docs/aatry.md).
-use Rattle.std.specs.Prelude.{ℕ, Bool, true, false, if◌then◌else◌, List, [], ◌∷◌, ◌++◌, Option, None, Some, Result, Ok, Err, codes, flat_map}
-use Rattle.serde_json.specs.Data.{Members}
-use Rattle.aa_bytes.specs.Bytes.{line_feed}
-use Rattle.aa_decide.specs.Exec.{Started}
+use Rattle.std.specs.Prelude.{ℕ, Bool, true, false, if◌then◌else◌, List, [], ◌++◌, Option, None, Some, Result, Ok, Err, flat_map}
 use Rattle.aa_decide_rules.specs.declared.verdict.Answer.{Answer}
 use Rattle.aa_decide_rules.specs.declared.verdict.Answer.TheVariants.{Allow, Complain, Deny, Refuse}
 use Rattle.aa_decide_ready.specs.Entries.{Loaded}
@@ -16,15 +13,12 @@ use Rattle.aa_set_answers.specs.declared.answers.Answered.{Answered}
 use Rattle.aa_set_commands.specs.declared.refusal.Refusal.{Refusal}
 use Rattle.aatry_policy.specs.FolderParts.{FolderParts}
 use Rattle.aatry_policy.specs.Parts.{Part, part_of}
-use Rattle.aatry_report.specs.Records.{record_line, record_of, with_text}
-use Rattle.aatry_report.specs.Shown.{shown}
 use Rattle.aatry_report.specs.declared.form.Form.{Form}
-use Rattle.aatry_report.specs.declared.form.Form.TheVariants.{Lines, Records}
 use Rattle.aatry_requests.specs.Questions.{rule_request}
-use Rattle.aatry_why.specs.Transitions.{with_started}
 use Rattle.aatry_why_lines.specs.Why.{allowing_lines}
 use Rattle.aatry_why_lines.specs.Written.{Written}
 use Rattle.aatry_who.specs.Sought.{Sought, answer_to, led}
+use Rattle.aatry_who.specs.Telling.{let_line}
 
 -- a request with this answer is let through; where there is no answer, no rule decides, and everything is
 abbrev pub lets_through : Option Answer → Bool
@@ -33,15 +27,6 @@ lets_through (Some Allow) = true
 lets_through (Some Complain) = true
 lets_through (Some Deny) = false
 lets_through (Some Refuse) = false
-
--- a record of a name that lets the request through: its full name, the answer, and under which profile a program runs that it starts
-abbrev pub let_record : List ℕ → List ℕ → Option Started → Members
-let_record name text to = with_started to (with_text (codes "answer") text (with_text (codes "name") name (record_of (codes "let"))))
-
--- the line of its name and its answer, or the record
-abbrev pub let_line : Form → List ℕ → List ℕ → Option Started → List ℕ
-let_line Lines name text to = shown name ++ codes ": " ++ text ++ line_feed ∷ []
-let_line Records name text to = record_line (let_record name text to)
 
 -- the rules of a part of a folder, with where they are written
 abbrev pub written_of : FolderParts → Part → Written

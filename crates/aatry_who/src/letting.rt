@@ -1,20 +1,19 @@
 //! Which profiles, children and hats would let a request through.
 
-ghost use Rattle.std.specs.Prelude.{◌≡◌, ◌∷◌, [], ◌++◌, IfOk, None, OnOk, option_map};
+ghost use Rattle.std.specs.Prelude.{◌≡◌, ◌∷◌, [], ◌++◌, IfOk, OnOk, option_map};
 ghost use Rattle.aa_decide_ready.specs.Slots.{filled};
 ghost use Rattle.aa_profile_data.specs.SeenRequests.{request_of};
 ghost use Rattle.aa_set_answers.specs.Children.{lines_of_children};
 ghost use Rattle.aa_set_commands.specs.Question.{seen_question};
 ghost use Rattle.aatry_policy.specs.FolderParts.{seen_folder};
 ghost use Rattle.aatry_policy.specs.SeenProfiles.{seen_part};
-ghost use Rattle.aatry_report.specs.SeenRecord.{seen_record};
-ghost use Rattle.aatry_report.specs.declared.form.Form.TheVariants as form;
-ghost use Rattle.aatry_who.specs.Letting.{asks_rules, by_rules, child_lines, entry_lines, let_line, let_record, lets_through};
+ghost use Rattle.aatry_who.specs.Letting.{asks_rules, by_rules, child_lines, entry_lines, lets_through};
 ghost use Rattle.aatry_who.specs.Letting.{lines_of, named_lines, rule_lines, told_lines, who_lines, written_of};
-ghost use Rattle.aatry_who.specs.Sought.{led, seen_sought};
+ghost use Rattle.aatry_who.specs.Sought.{seen_sought};
 ghost use Rattle.aatry_why_lines.specs.Written.{seen_rules};
 
-use crate::sought::{Sought, answer_to, led};
+use crate::sought::{Sought, answer_to};
+use crate::telling::push_let;
 use aa_decide::{Answer, Entry, Request};
 use aa_explain_rules::AskedRules;
 use aa_profile_data::{Child, Mode};
@@ -22,11 +21,10 @@ use aa_set_answers::{Answered, full_name};
 use aa_set_commands::{Question, RefusalKind};
 use aa_set_manager::PolicySet;
 use aatry_policy::{FolderParts, Part, part_of};
-use aatry_report::{Form, Record, Teller, push_shown};
+use aatry_report::Teller;
 use aatry_requests::rule_request;
-use aatry_why::put_started;
 use aatry_why_lines::{WrittenRules, push_allowing};
-use std::alloc::{AllocError, Global};
+use std::alloc::AllocError;
 
 // Whether a request with this answer is let through; where there is no answer, no rule decides, and everything is.
 fn lets_through(answer: Option<Answer>) -> bool
@@ -35,52 +33,6 @@ fn lets_through(answer: Option<Answer>) -> bool
     match answer {
         None | Some(Answer::Allow | Answer::Complain) => true,
         Some(Answer::Deny | Answer::Refuse) => false,
-    }
-}
-
-// Appends the line of a name that lets the request through to a text, with the answer.
-fn push_let_line(text: &mut Vec<u8>, name: &[u8], answer: &[u8]) -> Result<(), AllocError>
-    ensures { OnOk result (text.new.items ≡ text.old.items ++ let_line form.Lines name.now answer.now None) }
-{
-    push_shown(text, name)?;
-    text.extend_from_slice(b": ")?;
-    text.extend_from_slice(answer)?;
-    text.push(b'\n')?;
-    Ok(())
-}
-
-// The record of a name that lets the request through.
-fn let_record(
-    alloc: Global,
-    sought: &Sought<'_>,
-    name: &[u8],
-    told: &Answered,
-) -> Result<Record, AllocError>
-    ensures { IfOk result (λ made.
-        seen_record made ≡ let_record name.now told.now.text (led (seen_sought sought.now) name.now told.now.answer)) }
-{
-    let to = led(alloc, sought, name, told.answer)?;
-    let mut made = Record::new(alloc, "let")?;
-    made.put_text(alloc, "name", name)?;
-    made.put_text(alloc, "answer", told.text.as_slice())?;
-    put_started(alloc, &sought.slots, to, &mut made)?;
-    Ok(made)
-}
-
-// Appends a name that lets the request through to a text, as a line or a record.
-fn push_let(
-    text: &mut Vec<u8>,
-    teller: Teller,
-    sought: &Sought<'_>,
-    name: &[u8],
-    told: &Answered,
-) -> Result<(), AllocError>
-    ensures { OnOk result (text.new.items ≡ text.old.items
-        ++ let_line teller.form name.now told.now.text (led (seen_sought sought.now) name.now told.now.answer)) }
-{
-    match teller.form {
-        Form::Lines => push_let_line(text, name, told.text.as_slice()),
-        Form::Records => let_record(teller.alloc, sought, name, told)?.push(teller.alloc, text),
     }
 }
 
@@ -278,7 +230,7 @@ fn push_slots(
 /// request's needs, as a folder has them of that name (`aatry_why_lines::push_allowing`). One in mode unconfined or disabled has `unconfined`, or
 /// under which profile the program runs that it starts: no rule decides, and everything is let through. They are in the order of the set, children
 /// and hats after their profile. As records the lines are of the kind `let`, with the members `name` and `answer`, and of a program that is started
-/// `leads_to` and `on` (`aatry_why::put_started`); and of the kind `rule`.
+/// `leads_to` and `on`; and of the kind `rule`.
 ///
 /// # Errors
 ///

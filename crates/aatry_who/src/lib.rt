@@ -4,6 +4,7 @@
 mod laws;
 mod letting;
 mod sought;
+mod telling;
 mod unsure;
 mod who;
 

@@ -92,8 +92,8 @@ fn told_of(teller: Teller, folder: &PolicyFolder<'_>, words: &[String]) -> Resul
 /// program runs. They are in the order of the set, children and hats after their profile. One failed where there is none. Last come the profiles of
 /// files that are left out, of which it isn't known whether they would let the request through (`push_unsure_in`).
 ///
-/// As records the lines are of the kind `let`, with the members `name` and `answer`, and `leads_to` and `on` of a program that is started
-/// (`aatry_why::put_started`); and of the kind `rule`.
+/// As records the lines are of the kind `let`, with the members `name` and `answer`, and of a program that is started with the full name under which
+/// it runs, or the word, `leads_to`, and the base of the stack that this is, `on`, if it has one; and of the kind `rule`.
 ///
 /// # Errors
 ///

@@ -1,18 +1,14 @@
 -- The candidates that may attach to a path.
 use Rattle.std.specs.Prelude.{ℕ, ◌+◌, if◌then◌else◌, List, [], ◌∷◌, ◌++◌, map, Option, None, Some, codes}
-use Rattle.serde_json.specs.Data.{Members}
-use Rattle.aa_bytes.specs.Bytes.{line_feed}
 use Rattle.aa_bytes.specs.Texts.{is_empty}
-use Rattle.aa_bytes.specs.Quoting.{written_text}
 use Rattle.aa_set_answers.specs.ProfileNames.{full_name_at}
 use Rattle.aa_explain.specs.Candidates.{Candidate, best_pattern, patterns_of, rank_of}
 use Rattle.aa_explain.specs.Standings.{standing_of}
 use Rattle.aa_explain.specs.declared.standing.Standing.{Standing}
 use Rattle.aa_explain.specs.declared.standing.Standing.TheVariants.{Attached, Lost, Tied}
 use Rattle.aatry_report.specs.Headings.{heading_line}
-use Rattle.aatry_report.specs.Records.{record_line, record_of, with_text}
+use Rattle.aatry_report.specs.Fields.{Quoted, Word, Words, told}
 use Rattle.aatry_report.specs.declared.form.Form.{Form}
-use Rattle.aatry_report.specs.declared.form.Form.TheVariants.{Lines, Records}
 
 -- the words for how a candidate ranks
 abbrev pub standing_words : Standing → List ℕ
@@ -20,23 +16,18 @@ standing_words Attached = codes "attached"
 standing_words Tied = codes "equally near"
 standing_words Lost = codes "not attached"
 
--- a record with the full name of a candidate
-abbrev pub with_name : Candidate → Members → Members
-with_name candidate members = with_text (codes "name") (full_name_at candidate.entry.profile candidate.child) members
-
--- the record of a candidate, by the pattern that fits the path best
-abbrev pub attachment_record : Standing → Candidate → List ℕ → Members
-attachment_record standing candidate pattern =
-    with_text (codes "pattern") pattern (with_name candidate (with_text (codes "standing") (standing_words standing) (record_of (codes "attachment"))))
+-- how a candidate ranks, in words, by its full name and the pattern that fits the path best
+unfoldable pub standing_told : Form → (standing name pattern : List ℕ) → List ℕ
+standing_told form standing name pattern =
+    told form (codes "attachment")
+    (Words (codes "  ") ∷ Word (codes "standing") standing ∷ Words (codes ": ") ∷ Quoted (codes "name") name
+    ∷ Words (codes " by ") ∷ Quoted (codes "pattern") pattern ∷ [])
 
 -- the line of a candidate, by the pattern that fits the path best; without one that matches it has none
 abbrev pub line_by : Form → Standing → Candidate → Option (List ℕ) → List ℕ
 line_by form standing candidate None = []
-line_by Lines standing candidate (Some pattern) =
-    codes "  " ++ standing_words standing ++ codes ": "
-    ++ written_text (full_name_at candidate.entry.profile candidate.child)
-    ++ codes " by " ++ written_text pattern ++ line_feed ∷ []
-line_by Records standing candidate (Some pattern) = record_line (attachment_record standing candidate pattern)
+line_by form standing candidate (Some pattern) =
+    standing_told form (standing_words standing) (full_name_at candidate.entry.profile candidate.child) pattern
 
 -- the line of the candidate at an index, by its rank among those of all candidates
 abbrev pub candidate_line : Form → List ℕ → List ℕ → ℕ → Candidate → List ℕ

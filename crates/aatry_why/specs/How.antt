@@ -1,7 +1,6 @@
 -- The report on how the answer to the start of a program came about, after the rules that decide.
 use Rattle.std.specs.Prelude.{ℕ, Bool, true, false, if◌then◌else◌, List, [], ◌∷◌, ◌++◌, codes, Option, None, Some}
-use Rattle.serde_json.specs.Data.{Members}
-use Rattle.aa_bytes.specs.Bytes.{ampersand, line_feed}
+use Rattle.aa_bytes.specs.Bytes.{ampersand}
 use Rattle.aa_bytes.specs.Texts.{begins_with_byte, is_empty}
 use Rattle.aa_decide.specs.Exec.{Asker}
 use Rattle.aa_decide_ready.specs.Confinement.{By, ByName, Confinement, Unconfined, in_state}
@@ -14,9 +13,8 @@ use Rattle.aatry_why.specs.AttachmentLines.{attachment_lines}
 use Rattle.aa_explain.specs.Candidates.{Candidate, child_candidates, profile_candidates}
 use Rattle.aa_explain.specs.Leads.{Lead, lead_of}
 use Rattle.aatry_report.specs.Headings.{heading_line}
-use Rattle.aatry_report.specs.Records.{record_line, record_of, with_text}
+use Rattle.aatry_report.specs.Fields.{Word, Words, told}
 use Rattle.aatry_report.specs.declared.form.Form.{Form}
-use Rattle.aatry_report.specs.declared.form.Form.TheVariants.{Lines, Records}
 use Rattle.aatry_why.specs.Transitions.{transition_lines}
 
 -- the children and hats of the asker; a child or a hat has none
@@ -45,18 +43,15 @@ led_lines form path entries asker (Some lead) =
     transition_lines form lead
     ++ attachment_lines form path (asked_candidates lead.transition.target entries asker (row lead.transition.word).destination)
 
--- the record that says that nothing attaches
-abbrev pub none_record : Members
-none_record = with_text (codes "standing") (codes "none") (record_of (codes "attachment"))
+-- no profile in force has a pattern that matches the path
+unfoldable pub none_told : Form → List ℕ
+none_told form =
+    told form (codes "attachment")
+    (Words (codes "  ") ∷ Word (codes "standing") (codes "none") ∷ Words (codes ": no profile in force has a pattern that matches the path") ∷ [])
 
--- the line that says that nothing attaches
-abbrev pub none_line : List ℕ
-none_line = codes "  none: no profile in force has a pattern that matches the path" ++ line_feed ∷ []
-
--- the line or record where no profile in force has a pattern that matches the path
+-- the same below a heading
 abbrev pub none_attached : Form → List ℕ
-none_attached Lines = heading_line Lines (codes "attachment") ++ none_line
-none_attached Records = record_line none_record
+none_attached form = heading_line form (codes "attachment") ++ none_told form
 
 -- these lines, or that nothing attaches
 abbrev pub lines_or_none : Form → List ℕ → List ℕ

@@ -1,8 +1,6 @@
 -- The report on where a transition leads (docs/policy.md, "The start of a program").
 use Rattle.std.specs.Prelude.{ℕ, if◌then◌else◌, is_some, List, [], ◌∷◌, ◌++◌, Option, None, Some, codes, option_and_then}
 use Rattle.std.specs.Option.{option_map}
-use Rattle.serde_json.specs.Data.{Members}
-use Rattle.aa_bytes.specs.Bytes.{line_feed}
 use Rattle.aa_decide.specs.Exec.{Nowhere, Null, Stacked, Started, Unconfined, Under}
 use Rattle.aa_explain.specs.Leads.{Lead}
 use Rattle.aa_profile_data.specs.ExecWords.{row}
@@ -16,7 +14,7 @@ use Rattle.aa_set_answers.specs.ProfileNames.{full_name_at}
 use Rattle.aa_set_answers.specs.RuleLines.{exec_text}
 use Rattle.aa_set_answers.specs.StackNames.{stack_name}
 use Rattle.aatry_report.specs.Headings.{heading_line}
-use Rattle.aatry_report.specs.Records.{record_line, record_of, with_text}
+use Rattle.aatry_report.specs.Fields.{Bytes, Member, Quoted, Words, told}
 use Rattle.aatry_report.specs.declared.form.Form.{Form}
 use Rattle.aatry_report.specs.declared.form.Form.TheVariants.{Lines, Records}
 
@@ -76,63 +74,47 @@ abbrev pub lack_text : Option (List ℕ) → Destination → List ℕ
 lack_text None destination = attachment_lack destination
 lack_text (Some name) destination = if is_some (stack_of name) then stack_lack name else name_lack name destination
 
--- where the fallback leads, if it leads somewhere
-abbrev pub fallback_text : Option (List ℕ) → List ℕ
-fallback_text None = codes ", so it leads nowhere"
-fallback_text (Some to) = codes ", so it falls back to " ++ to
-
--- the base of a stack, if it has one
-abbrev pub on_text : Option (List ℕ) → List ℕ
-on_text None = []
-on_text (Some base) = codes ", on " ++ written_text base
-
--- where a word leads, and the base of the stack to which it leads; or else what doesn't exist, and where its fallback leads
-abbrev pub lead_text : List ℕ → Option (List ℕ) → Option (List ℕ) → Option (List ℕ) → List ℕ
-lead_text lack (Some to) base fallback = codes "leads to " ++ to ++ on_text base
-lead_text lack None base fallback = lack ++ fallback_text fallback
-
 -- what a transition's word leads to and doesn't exist
 abbrev pub lack_of : Transition → List ℕ
 lack_of transition = lack_text transition.target (row transition.word).destination
 
--- a record with where a fallback leads, if it leads somewhere
-abbrev pub with_fallback : Option (List ℕ) → Members → Members
-with_fallback None members = members
-with_fallback (Some to) members = with_text (codes "falls_back_to") to members
+-- a transition that leads somewhere, by the text of its rule; and one that leads to a stack, with its base
+unfoldable pub led_to : Form → (rule to : List ℕ) → List ℕ
+led_to form rule to =
+    told form (codes "transition")
+    (Words (codes "  ") ∷ Bytes rule ∷ Member (codes "rule") rule ∷ Words (codes ": leads to ") ∷ Bytes to ∷ Member (codes "leads_to") to ∷ [])
 
--- a record with the base of a stack, if it has one
-abbrev pub with_base : Option (List ℕ) → Members → Members
-with_base None members = members
-with_base (Some base) members = with_text (codes "on") base members
+unfoldable pub led_on : Form → (rule to base : List ℕ) → List ℕ
+led_on form rule to base =
+    told form (codes "transition")
+    (Words (codes "  ") ∷ Bytes rule ∷ Member (codes "rule") rule ∷ Words (codes ": leads to ") ∷ Bytes to ∷ Member (codes "leads_to") to
+    ∷ Words (codes ", on ") ∷ Quoted (codes "on") base ∷ [])
 
--- a record with the name of a destination, and the base of the stack that this is, if it has one
-abbrev pub with_place : List ℕ → Option (List ℕ) → Members → Members
-with_place to base members = with_base base (with_text (codes "leads_to") to members)
+abbrev pub led_text : Form → (rule to : List ℕ) → (base : Option (List ℕ)) → List ℕ
+led_text form rule to None = led_to form rule to
+led_text form rule to (Some base) = led_on form rule to base
 
--- a record with the name of a destination, if there is one, and the base of the stack that this is, if it has one
-abbrev pub with_led : Option (List ℕ) → Option (List ℕ) → Members → Members
-with_led None base members = members
-with_led (Some to) base members = with_place to base members
+-- one to whose destination something lacks, and where its fallback leads, if it leads somewhere
+unfoldable pub led_nowhere : Form → (rule lack : List ℕ) → List ℕ
+led_nowhere form rule lack =
+    told form (codes "transition")
+    (Words (codes "  ") ∷ Bytes rule ∷ Member (codes "rule") rule ∷ Words (codes ": ") ∷ Bytes lack ∷ Member (codes "lacks") lack
+    ∷ Words (codes ", so it leads nowhere") ∷ [])
 
--- a record with under which profile a program runs, if it is started
-abbrev pub with_started : Option Started → Members → Members
-with_started to members = with_led (destination_text Records to) (destination_base to) members
+unfoldable pub falling_back : Form → (rule lack to : List ℕ) → List ℕ
+falling_back form rule lack to =
+    told form (codes "transition")
+    (Words (codes "  ") ∷ Bytes rule ∷ Member (codes "rule") rule ∷ Words (codes ": ") ∷ Bytes lack ∷ Member (codes "lacks") lack
+    ∷ Words (codes ", so it falls back to ") ∷ Bytes to ∷ Member (codes "falls_back_to") to ∷ [])
 
--- a record with where a word leads, and the base of the stack to which it leads; or else with what doesn't exist, and where its fallback leads
-abbrev pub with_lead : List ℕ → Option (List ℕ) → Option (List ℕ) → Option (List ℕ) → Members → Members
-with_lead lack (Some to) base fallback members = with_place to base members
-with_lead lack None base fallback members = with_fallback fallback (with_text (codes "lacks") lack members)
+abbrev pub lacking_text : Form → (rule lack : List ℕ) → (fallback : Option (List ℕ)) → List ℕ
+lacking_text form rule lack None = led_nowhere form rule lack
+lacking_text form rule lack (Some to) = falling_back form rule lack to
 
--- the record of a transition, by where its word leads, the base of that, and where its fallback leads
-abbrev pub transition_record : Transition → Option (List ℕ) → Option (List ℕ) → Option (List ℕ) → Members
-transition_record transition to base fallback =
-    with_lead (lack_of transition) to base fallback (with_text (codes "rule") (exec_text (Some transition)) (record_of (codes "transition")))
-
--- the line of a transition, by where its word leads, the base of that, and where its fallback leads
+-- a transition, by where its word leads, the base of that, and where its fallback leads
 abbrev pub line_of : Form → Transition → Option (List ℕ) → Option (List ℕ) → Option (List ℕ) → List ℕ
-line_of Lines transition to base fallback =
-    codes "  " ++ exec_text (Some transition) ++ codes ": " ++ lead_text (lack_of transition) to base fallback ++ line_feed ∷ []
-line_of Records transition to base fallback = record_line (transition_record transition to base fallback)
+line_of form transition (Some to) base fallback = led_text form (exec_text (Some transition)) to base
+line_of form transition None base fallback = lacking_text form (exec_text (Some transition)) (lack_of transition) fallback
 
 -- The line of a transition that leads somewhere, below a heading. No fallback leads to a stack.
 abbrev pub transition_lines : Form → Lead → List ℕ

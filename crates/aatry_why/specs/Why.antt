@@ -1,9 +1,6 @@
 -- The report on questions to the policy of a folder (docs/aatry.md).
 use Rattle.std.specs.Prelude.{◌≡◌, ℕ, Bool, true, false, List, [], ◌∷◌, ◌++◌, codes, is_ok, Option, None, Some, Result, Ok, Err}
 use Rattle.std.specs.List.{before_first}
-use Rattle.serde_json.specs.Data.{Members}
-use Rattle.aa_bytes.specs.Bytes.{line_feed}
-use Rattle.aa_bytes.specs.Quoting.{written_text}
 use Rattle.aa_decide.specs.Exec.{Asker}
 use Rattle.aa_decide_rules.specs.declared.verdict.Answer.{Answer}
 use Rattle.aa_decide_rules.specs.declared.verdict.Answer.TheVariants.{Allow, Complain, Deny, Refuse}
@@ -28,7 +25,6 @@ use Rattle.aatry_folder.specs.Reports.{Report, failed_by}
 use Rattle.aatry_folder.specs.Told.{ToldFolders}
 use Rattle.aatry_policy.specs.Folders.{Folder, below, folder_at, left_out_in, left_out_note, origins_in, policy_in}
 use Rattle.aa_text_files.specs.Files.{File}
-use Rattle.aatry_policy.specs.LeftOut.{refusal_text}
 use Rattle.aatry_requests.specs.AskedWords.{asked_by}
 use Rattle.aatry_requests.specs.Questions.{rule_request}
 use Rattle.aatry_why.specs.Asks.{asks_of}
@@ -37,8 +33,7 @@ use Rattle.aatry_why.specs.Meant.{meant_name}
 use Rattle.aatry_why.specs.Unasked.{unasked_lines}
 use Rattle.aatry_why.specs.Uncertain.{uncertain_in}
 use Rattle.aatry_why_lines.specs.Why.{why_lines}
-use Rattle.aatry_report.specs.Records.{record_line, record_of, with_text}
-use Rattle.aatry_report.specs.Refusals.{with_named_refusal}
+use Rattle.aatry_report.specs.Fields.{Member, Number, Quoted, Word, Words, told}
 use Rattle.aatry_report.specs.declared.form.Form.{Form}
 use Rattle.aatry_report.specs.declared.form.Form.TheVariants.{Lines, Records}
 
@@ -51,36 +46,28 @@ how_of form entries (OfExec who owned path) = how_lines form entries who owned p
 abbrev pub audit_line : Answered → List ℕ
 audit_line told = before_first is_line_feed told.logged
 
--- a record of the answer to a question
-abbrev pub reply_record : Answered → Members
-reply_record told = with_text (codes "audit") (audit_line told) (with_text (codes "answer") told.text (record_of (codes "answer")))
-
--- the lines of the reply, or the record
+-- the answer to a question: the lines of the reply, or a record of the answer and the line that logs it
 abbrev pub reply_text : Form → Answered → List ℕ
-reply_text Lines told = lines_of told
-reply_text Records told = record_line (reply_record told)
+reply_text Lines answer = lines_of answer
+reply_text Records answer =
+    told Records (codes "answer") (Member (codes "answer") answer.text ∷ Member (codes "audit") (audit_line answer) ∷ [])
 
--- the name that may have been meant, in a record and on a line of its own, if there is one
-abbrev pub with_meant : Option (List ℕ) → Members → Members
-with_meant None members = members
-with_meant (Some name) members = with_text (codes "near") name members
+-- a refusal by its number and its name; and, on a line of its own, the name that may have been meant
+unfoldable pub refused_alone : Form → ℕ → List ℕ → List ℕ
+refused_alone form number name =
+    told form (codes "refused")
+    (Words (codes "refused ") ∷ Number (codes "number") number ∷ Words (codes " ") ∷ Word (codes "refusal") name ∷ [])
 
-abbrev pub name_line : List ℕ → List ℕ
-name_line name = codes "did you mean " ++ written_text name ++ codes "?" ++ line_feed ∷ []
-
-abbrev pub meant_line : Option (List ℕ) → List ℕ
-meant_line None = []
-meant_line (Some name) = name_line name
-
--- a record of a question that is refused
-abbrev pub refused_record : Refusal → Option (List ℕ) → Members
-refused_record refusal meant =
-    with_meant meant (with_named_refusal (number_of refusal.refusal) (name_of refusal.refusal) (record_of (codes "refused")))
+unfoldable pub refused_near : Form → ℕ → (name near : List ℕ) → List ℕ
+refused_near form number name near =
+    told form (codes "refused")
+    (Words (codes "refused ") ∷ Number (codes "number") number ∷ Words (codes " ") ∷ Word (codes "refusal") name
+    ∷ Words (codes "\ndid you mean ") ∷ Quoted (codes "near") near ∷ Words (codes "?") ∷ [])
 
 -- the refusal of a question, with the name that may have been meant, if there is one
 abbrev pub refused_text : Form → Refusal → Option (List ℕ) → List ℕ
-refused_text Lines refusal meant = codes "refused " ++ refusal_text refusal ++ line_feed ∷ [] ++ meant_line meant
-refused_text Records refusal meant = record_line (refused_record refusal meant)
+refused_text form refusal None = refused_alone form (number_of refusal.refusal) (name_of refusal.refusal)
+refused_text form refusal (Some name) = refused_near form (number_of refusal.refusal) (name_of refusal.refusal) name
 
 -- no rule allows some of the request's needs, or nothing confines the asker
 abbrev pub is_lacking : Option Answer → Bool

@@ -1,44 +1,38 @@
 //! The question as which the line of a log was read.
 
-ghost use Rattle.std.specs.Prelude.{◌≡◌, ◌++◌, IfOk, OnOk, map, string_bytes};
+ghost use Rattle.std.specs.Prelude.{◌≡◌, ◌++◌, OnOk, map, string_bytes};
 ghost use Rattle.aa_set_commands.specs.Question.{seen_question};
-ghost use Rattle.aatry_report.specs.SeenRecord.{seen_record};
-ghost use Rattle.aatry_why.specs.Asks.{asks_line, asks_of, asks_text, request_record};
+ghost use Rattle.aatry_why.specs.Asks.{asked_text, asks_of, asks_text};
 
 use aa_set_commands::Question;
-use aatry_report::{Form, Record, Teller};
+use aatry_report::{Field, Teller, tell};
 use aatry_requests::push_question;
-use std::alloc::{AllocError, Global};
+use std::alloc::AllocError;
 
-// Appends the line of a question to a text.
-fn push_line(question: &Question<'_>, out: &mut Vec<u8>) -> Result<(), AllocError>
-    ensures { OnOk result (out.new.items ≡ out.old.items ++ asks_line (seen_question question.entry.now)) }
+// Appends a question to a text, by its text.
+#[tactic(auto, unfolding(crate::specs::Asks::asked_text))]
+fn push_asked_text<'x>(teller: Teller, text: &'x [u8], out: &mut Vec<u8>) -> Result<(), AllocError>
+    ensures { OnOk result (out.new.items ≡ out.old.items ++ asked_text teller.form text.now) }
 {
-    out.extend_from_slice(b"# asks: ")?;
-    push_question(out, question)?;
-    out.push(b'\n')?;
-    Ok(())
-}
-
-// The record of a question.
-fn request_record(alloc: Global, question: &Question<'_>) -> Result<Record, AllocError>
-    ensures { IfOk result (λ made. seen_record made ≡ request_record (seen_question question.entry.now)) }
-{
-    let mut text = Vec::new(alloc);
-    push_question(&mut text, question)?;
-    let mut made = Record::new(alloc, "request")?;
-    made.put_text(alloc, "question", &text)?;
-    Ok(made)
+    tell(
+        teller,
+        "request",
+        &[
+            Field::Words("# asks: "),
+            Field::Bytes(text),
+            Field::Member("question", text),
+        ],
+        out,
+    )
 }
 
 // Appends a question to a text.
 fn push_text(teller: Teller, question: &Question<'_>, out: &mut Vec<u8>) -> Result<(), AllocError>
     ensures { OnOk result (out.new.items ≡ out.old.items ++ asks_text teller.form (seen_question question.entry.now)) }
 {
-    match teller.form {
-        Form::Lines => push_line(question, out),
-        Form::Records => request_record(teller.alloc, question)?.push(teller.alloc, out),
-    }
+    let mut text = Vec::new(teller.alloc);
+    push_question(&mut text, question)?;
+    push_asked_text(teller, &text, out)
 }
 
 /// Appends the question of words to a text, where they are one word, the line of a log: a comment with the words in which `why` takes it, or a

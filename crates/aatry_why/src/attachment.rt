@@ -1,19 +1,15 @@
 //! The report on the candidates that may attach to a path.
 
-ghost use Rattle.std.specs.Prelude.{◌≡◌, ◌++◌, IfOk, OnOk, Some};
+ghost use Rattle.std.specs.Prelude.{◌≡◌, ◌++◌, OnOk};
 ghost use Rattle.std.specs.Option.{option_map};
 ghost use Rattle.aa_explain.specs.Candidates.{seen_candidate, seen_candidates};
-ghost use Rattle.aatry_report.specs.SeenRecord.{seen_record};
-ghost use Rattle.aatry_report.specs.declared.form.Form.TheVariants.{Lines};
-ghost use Rattle.aatry_why.specs.AttachmentLines.{attachment_lines, attachment_record, candidate_line, headed};
-ghost use Rattle.aatry_why.specs.AttachmentLines.{line_by, lines_from, standing_words, with_name};
+ghost use Rattle.aatry_why.specs.AttachmentLines.{attachment_lines, candidate_line, headed, line_by, lines_from, standing_told, standing_words};
 
-use aa_bytes::push_text;
 use aa_explain::{Candidate, Standing, best_pattern, patterns_of, rank_of, ranks_of, standing_of};
 use aa_glob_pattern::Pattern;
 use aa_set_answers::full_name;
-use aatry_report::{Form, Record, Teller, push_heading};
-use std::alloc::{AllocError, Global};
+use aatry_report::{Field, Form, Teller, push_heading, tell};
+use std::alloc::AllocError;
 
 // The words for how a candidate ranks.
 fn standing_words(standing: Standing) -> &'static str
@@ -26,52 +22,30 @@ fn standing_words(standing: Standing) -> &'static str
     }
 }
 
-// Appends the line of a candidate for people, by the pattern that fits the path best.
-fn push_words(
-    alloc: Global,
-    standing: Standing,
-    candidate: Candidate<'_>,
-    pattern: &Pattern,
+// Appends how a candidate ranks, in words, by its full name and the pattern that fits the path best.
+#[tactic(auto, unfolding(crate::specs::AttachmentLines::standing_told))]
+fn push_standing<'x>(
+    teller: Teller,
+    standing: &'x str,
+    name: &'x [u8],
+    pattern: &'x [u8],
     out: &mut Vec<u8>,
 ) -> Result<(), AllocError>
-    ensures { OnOk result (out.new.items
-        ≡ out.old.items ++ line_by Lines standing (seen_candidate candidate.entry) (Some pattern.now)) }
+    ensures { OnOk result (out.new.items ≡ out.old.items ++ standing_told teller.form standing.now name.now pattern.now) }
 {
-    out.extend_from_slice(b"  ")?;
-    out.extend_from_slice(standing_words(standing).as_bytes())?;
-    out.extend_from_slice(b": ")?;
-    push_text(
+    tell(
+        teller,
+        "attachment",
+        &[
+            Field::Words("  "),
+            Field::Word("standing", standing),
+            Field::Words(": "),
+            Field::Quoted("name", name),
+            Field::Words(" by "),
+            Field::Quoted("pattern", pattern),
+        ],
         out,
-        &full_name(alloc, candidate.entry.profile(), candidate.child)?,
-    )?;
-    out.extend_from_slice(b" by ")?;
-    push_text(out, pattern.text())?;
-    out.push(b'\n')?;
-    Ok(())
-}
-
-// Puts the full name of a candidate into a record.
-fn put_name(alloc: Global, candidate: Candidate<'_>, into: &mut Record) -> Result<(), AllocError>
-    ensures { OnOk result (seen_record into.new ≡ with_name (seen_candidate candidate.entry) (seen_record into.old)) }
-{
-    let name = full_name(alloc, candidate.entry.profile(), candidate.child)?;
-    into.put_text(alloc, "name", &name)
-}
-
-// The record of a candidate, by the pattern that fits the path best.
-fn attachment_record(
-    alloc: Global,
-    standing: Standing,
-    candidate: Candidate<'_>,
-    pattern: &Pattern,
-) -> Result<Record, AllocError>
-    ensures { IfOk result (λ made. seen_record made ≡ attachment_record standing (seen_candidate candidate.entry) pattern.now) }
-{
-    let mut made = Record::new(alloc, "attachment")?;
-    made.put_text(alloc, "standing", standing_words(standing).as_bytes())?;
-    put_name(alloc, candidate, &mut made)?;
-    made.put_text(alloc, "pattern", pattern.text())?;
-    Ok(made)
+    )
 }
 
 // Appends the line of a candidate, by the pattern that fits the path best; nothing where none matches.
@@ -88,13 +62,8 @@ fn push_line(
     let Some(pattern) = pattern else {
         return Ok(());
     };
-    match teller.form {
-        Form::Lines => push_words(teller.alloc, standing, candidate, pattern, out),
-        Form::Records => attachment_record(teller.alloc, standing, candidate, pattern)?.push(
-            teller.alloc,
-            out,
-        ),
-    }
+    let name = full_name(teller.alloc, candidate.entry.profile(), candidate.child)?;
+    push_standing(teller, standing_words(standing), &name, pattern.text(), out)
 }
 
 // Appends the line of the candidate at an index, by its rank among those of all candidates.

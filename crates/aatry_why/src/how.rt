@@ -6,9 +6,8 @@ ghost use Rattle.aa_decide.specs.SeenExec.{IsIn, seen_asker};
 ghost use Rattle.aa_decide_ready.specs.Slots.{filled};
 ghost use Rattle.aa_explain.specs.Candidates.{seen_candidates};
 ghost use Rattle.aatry_why.specs.How.{asked_candidates, asked_lines, confined_lines, confinement_of, how_lines, led_lines};
-ghost use Rattle.aatry_why.specs.How.{lines_or_none, none_attached, none_line, none_record, own_children, profile_lines};
+ghost use Rattle.aatry_why.specs.How.{lines_or_none, none_attached, none_told, own_children, profile_lines};
 ghost use Rattle.aa_explain.specs.Leads.{seen_lead};
-ghost use Rattle.aatry_report.specs.SeenRecord.{seen_record};
 
 use crate::attachment::push_attachment;
 use crate::transition::push_transition;
@@ -17,7 +16,7 @@ use aa_decide::{Asker, Confinement, IndexedSlots};
 use aa_explain::{Candidate, Lead, child_candidates, lead_of, profile_candidates};
 use aa_profile_data::Destination;
 use aa_set_answers::find_asker;
-use aatry_report::{Form, Record, Teller, push_heading};
+use aatry_report::{Field, Teller, push_heading, tell};
 use std::alloc::{AllocError, Global};
 
 // The children and hats of the asker.
@@ -51,35 +50,29 @@ fn asked_candidates<'a>(
     }
 }
 
-// The record that says that nothing attaches.
-fn none_record(alloc: Global) -> Result<Record, AllocError>
-    ensures { IfOk result (λ made. seen_record made ≡ none_record) }
-{
-    let mut made = Record::new(alloc, "attachment")?;
-    made.put_text(alloc, "standing", b"none")?;
-    Ok(made)
-}
-
-// Appends the line that says that nothing attaches.
-fn push_none_line(out: &mut Vec<u8>) -> Result<(), AllocError>
-    ensures { OnOk result (out.new.items ≡ out.old.items ++ none_line) }
-{
-    out.extend_from_slice(b"  none: no profile in force has a pattern that matches the path")?;
-    out.push(b'\n')?;
-    Ok(())
-}
-
 // Appends that no profile in force has a pattern that matches the path.
+#[tactic(auto, unfolding(crate::specs::How::none_told))]
+fn push_none(teller: Teller, out: &mut Vec<u8>) -> Result<(), AllocError>
+    ensures { OnOk result (out.new.items ≡ out.old.items ++ none_told teller.form) }
+{
+    tell(
+        teller,
+        "attachment",
+        &[
+            Field::Words("  "),
+            Field::Word("standing", "none"),
+            Field::Words(": no profile in force has a pattern that matches the path"),
+        ],
+        out,
+    )
+}
+
+// Appends the same below a heading.
 fn push_none_attached(teller: Teller, out: &mut Vec<u8>) -> Result<(), AllocError>
     ensures { OnOk result (out.new.items ≡ out.old.items ++ none_attached teller.form) }
 {
-    match teller.form {
-        Form::Lines => {
-            push_heading(teller.form, "attachment", out)?;
-            push_none_line(out)
-        }
-        Form::Records => none_record(teller.alloc)?.push(teller.alloc, out),
-    }
+    push_heading(teller.form, "attachment", out)?;
+    push_none(teller, out)
 }
 
 // Appends lines, or that nothing attaches where there are none.

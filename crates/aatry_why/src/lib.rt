@@ -8,7 +8,6 @@ mod destinations;
 mod how;
 mod laws;
 mod meant;
-mod records;
 mod replies;
 mod sources;
 mod targets;
@@ -17,8 +16,7 @@ mod unasked;
 mod uncertain;
 mod why;
 
-pub use destinations::destination_text;
+pub use destinations::{destination_base, destination_text};
 pub use laws::which_rules_why_tells;
-pub use records::put_started;
 pub use sources::Sources;
 pub use why::{push_answer, push_asked, why_folder};

@@ -1,18 +1,15 @@
 //! Replies to questions, as they are reported.
 
-ghost use Rattle.std.specs.Prelude.{◌≡◌, ◌++◌, IfOk, OnOk};
+ghost use Rattle.std.specs.Prelude.{◌≡◌, ◌++◌, OnOk};
 ghost use Rattle.aa_set_answers.specs.Answers.{lines_of};
-ghost use Rattle.aatry_why.specs.Why.{audit_line, is_lacking, meant_line, name_line, refused_record, refused_text, reply_record, reply_text, with_meant};
-ghost use Rattle.aatry_report.specs.SeenRecord.{seen_record};
-ghost use Rattle.aatry_report.specs.declared.form.Form.TheVariants as form;
+ghost use Rattle.aatry_why.specs.Why.{audit_line, is_lacking, refused_alone, refused_near, refused_text, reply_text};
 
-use aa_bytes::{Sequence, length_while, push_text};
+use aa_bytes::{Sequence, length_while};
 use aa_decide::Answer;
 use aa_set_answers::Answered;
 use aa_set_commands::Refusal;
-use aatry_policy::push_refusal;
-use aatry_report::{Form, Record, Teller, put_named_refusal};
-use std::alloc::{AllocError, Global};
+use aatry_report::{Field, Form, Teller, tell};
+use std::alloc::AllocError;
 
 /// Whether no rule allows some of the request's needs, or nothing confines the asker.
 pub fn is_lacking(answer: Option<Answer>) -> bool
@@ -31,16 +28,6 @@ fn audit_line(told: &Answered) -> &[u8]
 {
     let logged = told.logged.as_slice();
     &logged[..length_while(logged, |byte| byte != b'\n')]
-}
-
-// The record of the answer to a question.
-fn reply_record(alloc: Global, told: &Answered) -> Result<Record, AllocError>
-    ensures { IfOk result (λ made. seen_record made ≡ reply_record told.now) }
-{
-    let mut made = Record::new(alloc, "answer")?;
-    made.put_text(alloc, "answer", told.text.as_slice())?;
-    made.put_text(alloc, "audit", audit_line(told))?;
-    Ok(made)
 }
 
 // Appends the lines of the answer to a question to a text.
@@ -62,71 +49,66 @@ pub fn push_reply(teller: Teller, told: &Answered, out: &mut Vec<u8>) -> Result<
 {
     match teller.form {
         Form::Lines => push_lines(told, out),
-        Form::Records => reply_record(teller.alloc, told)?.push(teller.alloc, out),
+        Form::Records => tell(
+            teller,
+            "answer",
+            &[
+                Field::Member("answer", told.text.as_slice()),
+                Field::Member("audit", audit_line(told)),
+            ],
+            out,
+        ),
     }
 }
 
-// Appends the line of a name that may have been meant to a text.
-fn push_name_line(out: &mut Vec<u8>, name: &[u8]) -> Result<(), AllocError>
-    ensures { OnOk result (out.new.items ≡ out.old.items ++ name_line name.now) }
-{
-    out.extend_from_slice(b"did you mean ")?;
-    push_text(out, name)?;
-    out.push(b'?')?;
-    out.push(b'\n')?;
-    Ok(())
-}
-
-// Appends the line of a name that may have been meant to a text, if there is one.
-fn push_meant_line(out: &mut Vec<u8>, meant: &Option<Sequence<u8>>) -> Result<(), AllocError>
-    ensures { OnOk result (out.new.items ≡ out.old.items ++ meant_line meant.now) }
-{
-    match meant {
-        Some(name) => push_name_line(out, name.as_slice()),
-        None => Ok(()),
-    }
-}
-
-// Appends the lines of a question that is refused to a text.
-fn push_refused_lines(
+// Appends the refusal of a question to a text, by its number and its name.
+#[tactic(auto, unfolding(crate::specs::Why::refused_alone))]
+fn push_refused_alone<'x>(
+    teller: Teller,
+    number: usize,
+    name: &'x str,
     out: &mut Vec<u8>,
-    refusal: Refusal,
-    meant: &Option<Sequence<u8>>,
 ) -> Result<(), AllocError>
-    ensures { OnOk result (out.new.items ≡ out.old.items ++ refused_text form.Lines refusal meant.now) }
+    ensures { OnOk result (out.new.items ≡ out.old.items ++ refused_alone teller.form number name.now) }
 {
-    out.extend_from_slice(b"refused ")?;
-    push_refusal(out, refusal)?;
-    out.push(b'\n')?;
-    push_meant_line(out, meant)
+    tell(
+        teller,
+        "refused",
+        &[
+            Field::Words("refused "),
+            Field::Number("number", number),
+            Field::Words(" "),
+            Field::Word("refusal", name),
+        ],
+        out,
+    )
 }
 
-// Puts the name that may have been meant into a record, if there is one.
-fn put_meant(
-    alloc: Global,
-    meant: &Option<Sequence<u8>>,
-    into: &mut Record,
+// Appends the same, and below it the name that may have been meant.
+#[tactic(auto, unfolding(crate::specs::Why::refused_near))]
+fn push_refused_near<'x>(
+    teller: Teller,
+    number: usize,
+    name: &'x str,
+    near: &'x [u8],
+    out: &mut Vec<u8>,
 ) -> Result<(), AllocError>
-    ensures { OnOk result (seen_record into.new ≡ with_meant meant.now (seen_record into.old)) }
+    ensures { OnOk result (out.new.items ≡ out.old.items ++ refused_near teller.form number name.now near.now) }
 {
-    match meant {
-        Some(name) => into.put_text(alloc, "near", name.as_slice()),
-        None => Ok(()),
-    }
-}
-
-// The record of a question that is refused.
-fn refused_record(
-    alloc: Global,
-    refusal: Refusal,
-    meant: &Option<Sequence<u8>>,
-) -> Result<Record, AllocError>
-    ensures { IfOk result (λ made. seen_record made ≡ refused_record refusal meant.now) }
-{
-    let mut made = Record::new(alloc, "refused")?;
-    put_named_refusal(alloc, refusal.number(), refusal.name(), &mut made)?;
-    put_meant(alloc, meant, &mut made)?;
-    Ok(made)
+    tell(
+        teller,
+        "refused",
+        &[
+            Field::Words("refused "),
+            Field::Number("number", number),
+            Field::Words(" "),
+            Field::Word("refusal", name),
+            Field::Words("\ndid you mean "),
+            Field::Quoted("near", near),
+            Field::Words("?"),
+        ],
+        out,
+    )
 }
 
 /// Appends the refusal of a question to a text, with the name that may have been meant, if there is one.
@@ -142,8 +124,9 @@ pub fn push_refused(
 ) -> Result<(), AllocError>
     ensures { OnOk result (out.new.items ≡ out.old.items ++ refused_text teller.form refusal meant.now) }
 {
-    match teller.form {
-        Form::Lines => push_refused_lines(out, refusal, meant),
-        Form::Records => refused_record(teller.alloc, refusal, meant)?.push(teller.alloc, out),
+    let number = refusal.number() as usize;
+    match meant {
+        None => push_refused_alone(teller, number, refusal.name(), out),
+        Some(name) => push_refused_near(teller, number, refusal.name(), name.as_slice(), out),
     }
 }

@@ -1,21 +1,19 @@
 //! The report on where a transition leads.
 
-ghost use Rattle.std.specs.Prelude.{◌≡◌, ◌++◌, IfOk, OnOk, Some};
+ghost use Rattle.std.specs.Prelude.{◌≡◌, ◌++◌, OnOk};
 ghost use Rattle.std.specs.Option.{option_copied};
 ghost use Rattle.aa_explain.specs.Leads.{seen_lead};
 ghost use Rattle.aa_bytes.specs.Quoting.{written_text};
-ghost use Rattle.aatry_report.specs.declared.form.Form.TheVariants.{Lines};
-ghost use Rattle.aatry_why.specs.Transitions.{attachment_lack, fallback_text, lack_of, lack_text, lead_text, line_of, name_lack, on_text, transition_lines};
+ghost use Rattle.aatry_why.specs.Transitions.{attachment_lack, falling_back, lack_text, lacking_text, led_nowhere, led_on, led_text, led_to, line_of, name_lack, transition_lines};
 
 use crate::destinations::{destination_base, destination_text};
-use crate::records::transition_record;
 use aa_bytes::{SharedBytes, push_text};
 use aa_decide::IndexedSlots;
 use aa_explain::Lead;
 use aa_profile_data::{Destination, Transition, stack_of};
 use aa_set_answers::push_exec_transition;
-use aatry_report::{Form, Teller, push_heading};
-use std::alloc::{AllocError, Global};
+use aatry_report::{Field, Teller, push_heading, tell};
+use std::alloc::AllocError;
 
 // Appends that something of this name doesn't exist, in these words.
 fn push_missing(name: &[u8], words: &[u8], out: &mut Vec<u8>) -> Result<(), AllocError>
@@ -54,7 +52,7 @@ fn push_attachment_lack(destination: Destination, out: &mut Vec<u8>) -> Result<(
 }
 
 // Appends what doesn't exist, where a destination leads nowhere.
-pub fn push_lack(
+fn push_lack(
     target: &Option<SharedBytes>,
     destination: Destination,
     out: &mut Vec<u8>,
@@ -70,77 +68,147 @@ pub fn push_lack(
     push_name_lack(name.as_slice(), destination, out)
 }
 
-// Appends where a fallback leads.
-fn push_fallback(fallback: Option<&[u8]>, out: &mut Vec<u8>) -> Result<(), AllocError>
-    ensures { OnOk result (out.new.items ≡ out.old.items ++ fallback_text (option_copied fallback.entry)) }
+// Appends where a transition leads, by the text of its rule.
+#[tactic(auto, unfolding(crate::specs::Transitions::led_to))]
+fn push_led_to<'x>(
+    teller: Teller,
+    rule: &'x [u8],
+    to: &'x [u8],
+    out: &mut Vec<u8>,
+) -> Result<(), AllocError>
+    ensures { OnOk result (out.new.items ≡ out.old.items ++ led_to teller.form rule.now to.now) }
 {
-    match fallback {
-        None => out.extend_from_slice(b", so it leads nowhere"),
-        Some(to) => {
-            out.extend_from_slice(b", so it falls back to ")?;
-            out.extend_from_slice(to)?;
-            Ok(())
-        }
-    }
+    tell(
+        teller,
+        "transition",
+        &[
+            Field::Words("  "),
+            Field::Bytes(rule),
+            Field::Member("rule", rule),
+            Field::Words(": leads to "),
+            Field::Bytes(to),
+            Field::Member("leads_to", to),
+        ],
+        out,
+    )
 }
 
-// Appends the base of a stack, if it has one.
-fn push_on(base: Option<&[u8]>, out: &mut Vec<u8>) -> Result<(), AllocError>
-    ensures { OnOk result (out.new.items ≡ out.old.items ++ on_text (option_copied base.entry)) }
+// Appends the stack to which a transition leads, and its base, by the text of its rule.
+#[tactic(auto, unfolding(crate::specs::Transitions::led_on))]
+fn push_led_on<'x>(
+    teller: Teller,
+    rule: &'x [u8],
+    to: &'x [u8],
+    base: &'x [u8],
+    out: &mut Vec<u8>,
+) -> Result<(), AllocError>
+    ensures { OnOk result (out.new.items ≡ out.old.items ++ led_on teller.form rule.now to.now base.now) }
+{
+    tell(
+        teller,
+        "transition",
+        &[
+            Field::Words("  "),
+            Field::Bytes(rule),
+            Field::Member("rule", rule),
+            Field::Words(": leads to "),
+            Field::Bytes(to),
+            Field::Member("leads_to", to),
+            Field::Words(", on "),
+            Field::Quoted("on", base),
+        ],
+        out,
+    )
+}
+
+// Appends where a transition leads, by the text of its rule, and the base of the stack to which this leads, if it has one.
+fn push_led(
+    teller: Teller,
+    rule: &[u8],
+    to: &[u8],
+    base: Option<&[u8]>,
+    out: &mut Vec<u8>,
+) -> Result<(), AllocError>
+    ensures { OnOk result (out.new.items ≡ out.old.items ++ led_text teller.form rule.now to.now (option_copied base.entry)) }
 {
     match base {
-        None => Ok(()),
-        Some(base) => {
-            out.extend_from_slice(b", on ")?;
-            push_text(out, base)
-        }
+        None => push_led_to(teller, rule, to, out),
+        Some(base) => push_led_on(teller, rule, to, base, out),
     }
 }
 
-// Appends where a transition leads.
-fn push_lead(
-    transition: &Transition,
-    to: Option<&[u8]>,
-    base: Option<&[u8]>,
+// Appends what doesn't exist to which a transition would lead, by the text of its rule, without a fallback that leads somewhere.
+#[tactic(auto, unfolding(crate::specs::Transitions::led_nowhere))]
+fn push_led_nowhere<'x>(
+    teller: Teller,
+    rule: &'x [u8],
+    lack: &'x [u8],
+    out: &mut Vec<u8>,
+) -> Result<(), AllocError>
+    ensures { OnOk result (out.new.items ≡ out.old.items ++ led_nowhere teller.form rule.now lack.now) }
+{
+    tell(
+        teller,
+        "transition",
+        &[
+            Field::Words("  "),
+            Field::Bytes(rule),
+            Field::Member("rule", rule),
+            Field::Words(": "),
+            Field::Bytes(lack),
+            Field::Member("lacks", lack),
+            Field::Words(", so it leads nowhere"),
+        ],
+        out,
+    )
+}
+
+// Appends the same, and where its fallback leads.
+#[tactic(auto, unfolding(crate::specs::Transitions::falling_back))]
+fn push_falling_back<'x>(
+    teller: Teller,
+    rule: &'x [u8],
+    lack: &'x [u8],
+    to: &'x [u8],
+    out: &mut Vec<u8>,
+) -> Result<(), AllocError>
+    ensures { OnOk result (out.new.items ≡ out.old.items ++ falling_back teller.form rule.now lack.now to.now) }
+{
+    tell(
+        teller,
+        "transition",
+        &[
+            Field::Words("  "),
+            Field::Bytes(rule),
+            Field::Member("rule", rule),
+            Field::Words(": "),
+            Field::Bytes(lack),
+            Field::Member("lacks", lack),
+            Field::Words(", so it falls back to "),
+            Field::Bytes(to),
+            Field::Member("falls_back_to", to),
+        ],
+        out,
+    )
+}
+
+// Appends what doesn't exist to which a transition would lead, by the text of its rule, and where its fallback leads.
+fn push_lacking(
+    teller: Teller,
+    rule: &[u8],
+    lack: &[u8],
     fallback: Option<&[u8]>,
     out: &mut Vec<u8>,
 ) -> Result<(), AllocError>
-    ensures { OnOk result (out.new.items
-        ≡ out.old.items ++ lead_text (lack_of transition.now) (option_copied to.entry) (option_copied base.entry) (option_copied fallback.entry)) }
+    ensures { OnOk result (out.new.items ≡ out.old.items ++ lacking_text teller.form rule.now lack.now (option_copied fallback.entry)) }
 {
-    match to {
-        None => {
-            push_lack(&transition.target, transition.word.destination(), out)?;
-            push_fallback(fallback, out)
-        }
-        Some(to) => {
-            out.extend_from_slice(b"leads to ")?;
-            out.extend_from_slice(to)?;
-            push_on(base, out)
-        }
+    match fallback {
+        None => push_led_nowhere(teller, rule, lack, out),
+        Some(to) => push_falling_back(teller, rule, lack, to, out),
     }
 }
 
-// Appends the line of a transition for people.
-fn push_words(
-    transition: &Transition,
-    to: Option<&[u8]>,
-    base: Option<&[u8]>,
-    fallback: Option<&[u8]>,
-    out: &mut Vec<u8>,
-) -> Result<(), AllocError>
-    ensures { OnOk result (out.new.items
-        ≡ out.old.items ++ line_of Lines transition.now (option_copied to.entry) (option_copied base.entry) (option_copied fallback.entry)) }
-{
-    out.extend_from_slice(b"  ")?;
-    push_exec_transition(out, transition)?;
-    out.extend_from_slice(b": ")?;
-    push_lead(transition, to, base, fallback, out)?;
-    out.push(b'\n')?;
-    Ok(())
-}
-
-// Appends the line of a transition.
+// Appends a transition, by where its word leads, the base of that, and where its fallback leads.
 fn push_line(
     teller: Teller,
     transition: &Transition,
@@ -152,12 +220,15 @@ fn push_line(
     ensures { OnOk result (out.new.items
         ≡ out.old.items ++ line_of teller.form transition.now (option_copied to.entry) (option_copied base.entry) (option_copied fallback.entry)) }
 {
-    match teller.form {
-        Form::Lines => push_words(transition, to, base, fallback, out),
-        Form::Records => transition_record(teller.alloc, transition, to, base, fallback)?.push(
-            teller.alloc,
-            out,
-        ),
+    let mut rule = Vec::new(teller.alloc);
+    push_exec_transition(&mut rule, transition)?;
+    match to {
+        Some(to) => push_led(teller, &rule, to, base, out),
+        None => {
+            let mut lack = Vec::new(teller.alloc);
+            push_lack(&transition.target, transition.word.destination(), &mut lack)?;
+            push_lacking(teller, &rule, &lack, fallback, out)
+        }
     }
 }
 

@@ -1,7 +1,5 @@
 -- The lines and the records of rules with the places where they are written.
 use Rattle.std.specs.Prelude.{ℕ, Bool, false, if◌then◌else◌, List, [], ◌∷◌, ◌++◌, codes, flat_map, Option, None, Some, slice_get}
-use Rattle.serde_json.specs.Data.{Members}
-use Rattle.aa_bytes.specs.Bytes.{line_feed}
 use Rattle.aa_bytes.specs.Texts.{is_empty}
 use Rattle.aa_profile_data.specs.Ranks.{same_rank}
 use Rattle.aa_profile_data.specs.declared.profile.Rank.TheVariants.{Last}
@@ -11,25 +9,26 @@ use Rattle.aa_set_answers.specs.RuleLines.{rule_text}
 use Rattle.aa_text_files.specs.Files.{bytes_at, name_at}
 use Rattle.aa_text_files.specs.declared.text_error.Place.{Place}
 use Rattle.aatry_folder.specs.PolicyFiles.{PolicyFiles}
-use Rattle.aatry_report.specs.Faults.{place_text}
-use Rattle.aatry_report.specs.FilePlaces.{path_below, with_place}
+use Rattle.aatry_report.specs.Columns.{column}
+use Rattle.aatry_report.specs.FilePlaces.{path_below}
 use Rattle.aatry_report.specs.Headings.{heading_line}
-use Rattle.aatry_report.specs.Records.{record_line, record_of, with_text}
+use Rattle.aatry_report.specs.Lines.{line_number}
+use Rattle.aatry_report.specs.Fields as said
+use Rattle.aatry_report.specs.Fields.{MemberWord, Said, Text, Words, told}
 use Rattle.aatry_report.specs.Shown.{shown}
 use Rattle.aatry_report.specs.declared.form.Form.{Form}
-use Rattle.aatry_report.specs.declared.form.Form.TheVariants.{Lines, Records}
+use Rattle.aatry_report.specs.declared.place.LinePlace.{LinePlace}
 use Rattle.aatry_why_lines.specs.Written.{Written}
 
--- where a rule is written: its file, line and column, or the profile's file alone
-abbrev pub where_text : PolicyFiles → List ℕ → Option Place → List ℕ
-where_text below name None = shown (path_below below.base name) ++ codes ": "
-where_text below name (Some place) = place_text (path_below below.base (name_at below.files place.file)) (bytes_at below.files place.file) place.at
+-- the line and the column of a place in a file's bytes
+abbrev pub line_place : List ℕ → ℕ → LinePlace
+line_place text at = record { line = line_number text at; column = column text at }
 
--- a record with where a rule is written: its file, line and column, or the profile's file alone
-abbrev pub with_where : PolicyFiles → List ℕ → Option Place → Members → Members
-with_where below name None members = with_text (codes "file") (path_below below.base name) members
-with_where below name (Some place) members =
-    with_place (path_below below.base (name_at below.files place.file)) (bytes_at below.files place.file) place.at members
+-- where a rule is written: its file, line and column, or the profile's file alone
+abbrev pub where_said : PolicyFiles → List ℕ → Option Place → Said
+where_said below name None = said.Place (path_below below.base name) None
+where_said below name (Some place) =
+    said.Place (path_below below.base (name_at below.files place.file)) (Some (line_place (bytes_at below.files place.file) place.at))
 
 -- A rule is by `all`, and says where a program goes that no other rule leads: it has the rank that only rules of `all` have.
 abbrev pub is_by_all : Rule → Bool
@@ -38,28 +37,25 @@ is_by_all (Cap rule) = false
 is_by_all (Net rule) = false
 is_by_all (Other rule) = false
 
--- a record with the word that makes a rule, where that is `all`
-abbrev pub with_maker : Rule → Members → Members
-with_maker rule members = if is_by_all rule then with_text (codes "made_by") (codes "all") members else members
+-- that a rule is by `all`, where it is: after it in the line, and by the word that makes it in the record
+abbrev pub maker_words : Bool → List ℕ
+maker_words by_all = if by_all then codes ", by `all`" else []
 
--- the record of a rule: the words over its group, where it is written, the rule as `show` prints it, and whether it is by `all`
-abbrev pub rule_record : PolicyFiles → List ℕ → List ℕ → Option Place → Rule → Members
-rule_record below name words place rule =
-    with_maker rule (with_text (codes "rule") (rule_text rule)
-    (with_where below name place (with_text (codes "group") words (record_of (codes "rule")))))
+abbrev pub maker : Bool → Said
+maker by_all = if by_all then MemberWord (codes "made_by") (codes "all") else Words []
+
+-- a rule: where it is written, the rule as `show` prints it, and whether it is by `all`; only a record has the words over its group
+abbrev pub rule_parts : List ℕ → Said → List ℕ → Bool → List Said
+rule_parts words place text by_all =
+    MemberWord (codes "group") words ∷ Words (codes "  ") ∷ place ∷ Text (codes "rule") text ∷ Words (maker_words by_all) ∷ maker by_all ∷ []
+
+abbrev pub told_line : Form → PolicyFiles → List ℕ → List ℕ → Option Place → Rule → List ℕ
+told_line form below name words place rule =
+    told form (codes "rule") (rule_parts words (where_said below name place) (rule_text rule) (is_by_all rule))
 
 -- a rule as `show` prints it, as it is shown
 abbrev pub shown_rule : Rule → List ℕ
 shown_rule rule = shown (rule_text rule)
-
--- that a rule is by `all`, after it
-abbrev pub maker_text : Rule → List ℕ
-maker_text rule = if is_by_all rule then codes ", by `all`" else []
-
--- the line of a rule: where it is written, the rule as `show` prints it, and whether it is by `all`; only a record has the words over its group
-abbrev pub told_line : Form → PolicyFiles → List ℕ → List ℕ → Option Place → Rule → List ℕ
-told_line Lines below name words place rule = codes "  " ++ where_text below name place ++ shown_rule rule ++ maker_text rule ++ line_feed ∷ []
-told_line Records below name words place rule = record_line (rule_record below name words place rule)
 
 -- where the rule at an index is written
 abbrev pub place_at : List (Option Place) → ℕ → Option Place

@@ -1,16 +1,13 @@
 -- Missing rules, as they are reported.
 use Rattle.std.specs.Prelude.{ℕ, if◌then◌else◌, List, [], ◌∷◌, ◌++◌, codes, None, Some}
 use Rattle.std.specs.Str.{bytes_eq}
-use Rattle.serde_json.specs.Data.{Members}
-use Rattle.aa_bytes.specs.Bytes.{line_feed}
 use Rattle.aa_explain_written.specs.Written.{written_rule}
 use Rattle.aa_profile_data.specs.declared.profile.Rule.{Rule}
 use Rattle.aa_set_answers.specs.RuleLines.{rule_text}
 use Rattle.aatry_report.specs.Headings.{heading_line}
-use Rattle.aatry_report.specs.Records.{record_line, record_of, with_text}
+use Rattle.aatry_report.specs.Fields.{Bytes, Member, MemberWord, Said, Words, told}
 use Rattle.aatry_report.specs.Shown.{shown}
 use Rattle.aatry_report.specs.declared.form.Form.{Form}
-use Rattle.aatry_report.specs.declared.form.Form.TheVariants.{Lines, Records}
 use Rattle.aatry_why_lines.specs.Lines.{shown_rule}
 use Rattle.aatry_why_lines.specs.declared.missing.Missing.{Missing}
 use Rattle.aatry_why_lines.specs.declared.missing.Missing.TheVariants.{OfRequest, OfScript}
@@ -24,21 +21,18 @@ abbrev pub missing_words : Missing → List ℕ
 missing_words OfRequest = codes "missing rule"
 missing_words OfScript = codes "missing rule, where it is a script"
 
--- a record with that a rule is missing where a script is started
-abbrev pub with_case : Missing → Members → Members
-with_case OfRequest members = members
-with_case OfScript members = with_text (codes "for") (codes "script") members
-
--- a record of a missing rule
-abbrev pub missing_record : Missing → Rule → Members
-missing_record case rule = with_case case (with_text (codes "rule") (pasted_rule rule) (record_of (codes "missing")))
+-- that a rule is missing where a script is started, in the record
+abbrev pub case_part : Missing → Said
+case_part OfRequest = Words []
+case_part OfScript = MemberWord (codes "for") (codes "script")
 
 -- A missing rule on a line, where it is shown. Where a terminal obeys one of its bytes it is printed as by `show`, too: with what is shown in place
 -- of that byte it would be another rule.
 abbrev pub shown_missing : Rule → List ℕ
 shown_missing rule = if bytes_eq (shown (pasted_rule rule)) (pasted_rule rule) then pasted_rule rule else shown_rule rule
 
--- the line of a missing rule, below words of its own
+-- a missing rule, in lines below words of its own
 abbrev pub missing_line : Form → Missing → Rule → List ℕ
-missing_line Lines case rule = heading_line Lines (missing_words case) ++ codes "  " ++ shown_missing rule ++ line_feed ∷ []
-missing_line Records case rule = record_line (missing_record case rule)
+missing_line form case rule =
+    heading_line form (missing_words case)
+    ++ told form (codes "missing") (Words (codes "  ") ∷ Bytes (shown_missing rule) ∷ Member (codes "rule") (pasted_rule rule) ∷ case_part case ∷ [])

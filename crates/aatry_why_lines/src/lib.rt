@@ -11,7 +11,7 @@ mod written;
 
 pub use finding::Finder;
 pub use laws::what_is_told_as_audited;
-pub use lines::{push_where, put_where};
-pub use missing::{pasted_rule, push_shown_missing};
+pub use lines::{Where, rule_text, where_of};
+pub use missing::{pasted_rule, shown_missing};
 pub use why::{push_allowing, push_why};
 pub use written::WrittenRules;

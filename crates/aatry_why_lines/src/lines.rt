@@ -1,97 +1,84 @@
 //! The lines and the records of rules with the places where they are written.
 
-ghost use Rattle.std.specs.Prelude.{◌≡◌, ◌++◌, [], IfOk, OnOk, codes, flat_map};
+ghost use Rattle.std.specs.Prelude.{◌≡◌, ◌++◌, IfOk, OnOk, codes, flat_map};
 ghost use Rattle.aa_set_answers.specs.RuleLines.{rule_text};
-ghost use Rattle.std.specs.Str.{bytes_eq};
-ghost use Rattle.aatry_report.specs.Records.{with_text};
-ghost use Rattle.aatry_report.specs.Shown.{shown};
-ghost use Rattle.aatry_report.specs.SeenRecord.{seen_record};
-ghost use Rattle.aatry_why_lines.specs.Lines.{group_lines, is_by_all, line_at, maker_text, place_at, told_line};
-ghost use Rattle.aatry_why_lines.specs.Lines.{rule_record, shown_rule, where_text, with_maker, with_where};
+ghost use Rattle.aatry_report.specs.Fields.{told};
+ghost use Rattle.aatry_report.specs.SeenFields.{seen_field};
+ghost use Rattle.aatry_why_lines.specs.Lines.{group_lines, is_by_all, line_at, maker, maker_words, place_at, rule_parts, told_line, where_said};
+ghost use Rattle.aatry_why_lines.specs.Wheres.{seen_where};
 ghost use Rattle.aatry_why_lines.specs.Written.{seen_rules};
-ghost use Rattle.aatry_report.specs.declared.form.Form.TheVariants.{Lines};
 
 use crate::finding::Finder;
 use crate::written::WrittenRules;
 use aa_profile_data::{Rank, Rule};
 use aa_set_answers::push_rule;
 use aa_text_files::Place;
-use aatry_report::{Form, Record, Teller, push_heading, push_place, push_shown, put_place};
+use aatry_report::{Field, LinePlace, Teller, push_heading, tell};
 use std::alloc::{AllocError, Global};
 
-/// Appends where a rule is written to a text: the folder's path with the name of the file, the line and the column. A rule without a place is in the
-/// profile's file, which has the name.
+/// Where a rule is written.
+#[derive(Drop)]
+pub struct Where {
+    /// The name of the file in reports.
+    pub path: Vec<u8>,
+    /// The line and the column, if the place in the file is known.
+    pub place: Option<LinePlace>,
+}
+
+impl Where {
+    ghost use Rattle.std.specs.Prelude.{◌≡◌};
+    ghost use Rattle.aatry_report.specs.SeenFields.{seen_field};
+    ghost use Rattle.aatry_why_lines.specs.Wheres.{seen_where};
+
+    /// The field that reports it. It takes no memory.
+    pub fn field(&self) -> Field<'_>
+        ensures { seen_field result ≡ seen_where self.now }
+    {
+        Field::Place(&self.path, self.place)
+    }
+}
+
+/// Where a rule is written: the folder's path with the name of the file, the line and the column. A rule without a place is in the profile's file,
+/// which has the name.
 ///
 /// # Errors
 ///
-/// Where memory runs out. A beginning may have been appended then.
-pub fn push_where(
+/// Where memory runs out.
+pub fn where_of(
     finder: &mut Finder<'_>,
     name: &[u8],
     place: Option<Place>,
-    out: &mut Vec<u8>,
-) -> Result<(), AllocError>
-    ensures told { OnOk result (out.new.items ≡ out.old.items ++ where_text finder.old name.now place) }
+) -> Result<Where, AllocError>
+    ensures told { IfOk result (λ found. seen_where found ≡ where_said finder.old name.now place) }
     ensures same { finder.new ≡ finder.old }
 {
     match place {
-        None => {
-            let path = finder.path_below(name)?;
-            push_shown(out, &path)?;
-            out.extend_from_slice(b": ")
-        }
+        None => Ok(Where {
+            path: finder.path_below(name)?,
+            place: None,
+        }),
         Some(place) => {
             let path = finder.path_of(place)?;
             let found = finder.line_place(place)?;
-            push_place(out, &path, found)
+            Ok(Where {
+                path,
+                place: Some(found),
+            })
         }
     }
 }
 
-/// Puts where a rule is written into a record: by the name `file`, the folder's path with the name of the file, and by `line` and `column`. A rule
-/// without a place is in the profile's file, which has the name; only that is put then.
+/// A rule, as `show` prints it.
 ///
 /// # Errors
 ///
-/// Where memory runs out. Some of it may have been put then.
-pub fn put_where(
-    finder: &mut Finder<'_>,
-    name: &[u8],
-    place: Option<Place>,
-    into: &mut Record,
-) -> Result<(), AllocError>
-    ensures told { OnOk result (seen_record into.new ≡ with_where finder.old name.now place (seen_record into.old)) }
-    ensures same { finder.new ≡ finder.old }
-{
-    match place {
-        None => {
-            let path = finder.path_below(name)?;
-            into.put_text(finder.alloc(), "file", &path)
-        }
-        Some(place) => {
-            let path = finder.path_of(place)?;
-            let found = finder.line_place(place)?;
-            put_place(finder.alloc(), &path, found, into)
-        }
-    }
-}
-
-// Puts a rule, as `show` prints it, into a record.
-fn put_rule(alloc: Global, rule: &Rule, into: &mut Record) -> Result<(), AllocError>
-    ensures { OnOk result (seen_record into.new ≡ with_text (codes "rule") (rule_text rule.now) (seen_record into.old)) }
+/// Where memory runs out.
+pub fn rule_text(alloc: Global, rule: &Rule) -> Result<Vec<u8>, AllocError>
+    ensures { IfOk result (λ text. text.items ≡ rule_text rule.now) }
 {
     let mut text = Vec::new(alloc);
     push_rule(&mut text, rule)?;
-    into.put_text(alloc, "rule", &text)
-}
-
-// Appends a rule, as `show` prints it, to a text: as it is shown at a terminal.
-pub fn push_shown_rule(alloc: Global, rule: &Rule, out: &mut Vec<u8>) -> Result<(), AllocError>
-    ensures { OnOk result (out.new.items ≡ out.old.items ++ shown_rule rule.now) }
-{
-    let mut text = Vec::new(alloc);
-    push_rule(&mut text, rule)?;
-    push_shown(out, &text)
+    Ok(text)
 }
 
 // Whether a rule is by `all`, and says where a program goes that no other rule leads.
@@ -104,66 +91,51 @@ fn is_by_all(rule: &Rule) -> bool
     }
 }
 
-// Appends that a rule is by `all` to a text, where it is.
-fn push_maker(rule: &Rule, out: &mut Vec<u8>) -> Result<(), AllocError>
-    ensures { OnOk result (out.new.items ≡ out.old.items ++ maker_text rule.now) }
+// That a rule is by `all`, where it is, after it in the line.
+fn maker_words(by_all: bool) -> &'static str
+    ensures { result.now ≡ maker_words by_all }
 {
-    if is_by_all(rule) {
-        return out.extend_from_slice(b", by `all`");
+    if by_all { ", by `all`" } else { "" }
+}
+
+// The word that makes a rule, where that is `all`, in the record.
+fn maker<'x>(by_all: bool) -> Field<'x>
+    ensures { seen_field result ≡ maker by_all }
+{
+    if by_all {
+        Field::MemberWord("made_by", "all")
+    } else {
+        Field::Words("")
     }
-    Ok(())
 }
 
-// Puts the word that makes a rule into a record, where that is `all`.
-fn put_maker(alloc: Global, rule: &Rule, into: &mut Record) -> Result<(), AllocError>
-    ensures { OnOk result (seen_record into.new ≡ with_maker rule.now (seen_record into.old)) }
-{
-    if is_by_all(rule) {
-        return into.put_text(alloc, "made_by", b"all");
-    }
-    Ok(())
-}
-
-// The record of a rule of a group below these words.
-fn rule_record(
-    finder: &mut Finder<'_>,
-    name: &[u8],
-    words: &str,
-    place: Option<Place>,
-    rule: &Rule,
-) -> Result<Record, AllocError>
-    ensures told { IfOk result (λ made. seen_record made ≡ rule_record finder.old name.now words.now place rule.now) }
-    ensures same { finder.new ≡ finder.old }
-{
-    let alloc = finder.alloc();
-    let mut made = Record::new(alloc, "rule")?;
-    made.put_text(alloc, "group", words.as_bytes())?;
-    put_where(finder, name, place, &mut made)?;
-    put_rule(alloc, rule, &mut made)?;
-    put_maker(alloc, rule, &mut made)?;
-    Ok(made)
-}
-
-// Appends the line of a rule of a group to a text.
-fn push_rule_line(
-    finder: &mut Finder<'_>,
-    name: &[u8],
-    place: Option<Place>,
-    rule: &Rule,
+// Appends a rule of a group below these words to a text, by where it is written and as `show` prints it.
+fn push_written<'x>(
+    teller: Teller,
+    words: &'x str,
+    place: Field<'x>,
+    text: &'x [u8],
+    by_all: bool,
     out: &mut Vec<u8>,
 ) -> Result<(), AllocError>
-    ensures told { OnOk result (out.new.items ≡ out.old.items ++ told_line Lines finder.old name.now [] place rule.now) }
-    ensures same { finder.new ≡ finder.old }
+    ensures { OnOk result (out.new.items ≡ out.old.items ++ told teller.form (codes "rule") (rule_parts words.now (seen_field place.entry) text.now by_all)) }
 {
-    out.extend_from_slice(b"  ")?;
-    push_where(finder, name, place, out)?;
-    push_shown_rule(finder.alloc(), rule, out)?;
-    push_maker(rule, out)?;
-    out.push(b'\n')?;
-    Ok(())
+    tell(
+        teller,
+        "rule",
+        &[
+            Field::MemberWord("group", words),
+            Field::Words("  "),
+            place,
+            Field::Text("rule", text),
+            Field::Words(maker_words(by_all)),
+            maker(by_all),
+        ],
+        out,
+    )
 }
 
-// Appends the line or record of a rule of a group below these words to a text.
+// Appends a rule of a group below these words to a text.
 fn push_told(
     finder: &mut Finder<'_>,
     teller: Teller,
@@ -176,10 +148,9 @@ fn push_told(
     ensures told { OnOk result (out.new.items ≡ out.old.items ++ told_line teller.form finder.old name.now words.now place rule.now) }
     ensures same { finder.new ≡ finder.old }
 {
-    match teller.form {
-        Form::Lines => push_rule_line(finder, name, place, rule, out),
-        Form::Records => { rule_record(finder, name, words, place, rule)?.push(teller.alloc, out) }
-    }
+    let found = where_of(finder, name, place)?;
+    let text = rule_text(teller.alloc, rule)?;
+    push_written(teller, words, found.field(), &text, is_by_all(rule), out)
 }
 
 // Where the rule at an index is written.

@@ -2,16 +2,15 @@
 
 ghost use Rattle.std.specs.Prelude.{◌≡◌, ◌++◌, IfOk, OnOk};
 ghost use Rattle.std.specs.Str.{bytes_eq};
-ghost use Rattle.aatry_report.specs.SeenRecord.{seen_record};
+ghost use Rattle.aatry_report.specs.SeenFields.{seen_field};
 ghost use Rattle.aatry_report.specs.Shown.{shown};
-ghost use Rattle.aatry_report.specs.declared.form.Form.TheVariants.{Lines};
-ghost use Rattle.aatry_why_lines.specs.Missing.{missing_line, missing_record, missing_words, pasted_rule, shown_missing, with_case};
+ghost use Rattle.aatry_why_lines.specs.Lines.{shown_rule};
+ghost use Rattle.aatry_why_lines.specs.Missing.{case_part, missing_line, missing_words, pasted_rule, shown_missing};
 
-use crate::lines::push_shown_rule;
+use crate::lines::rule_text;
 use aa_explain_written::written_rule;
 use aa_profile_data::Rule;
-use aa_set_answers::push_rule;
-use aatry_report::{Form, Record, Teller, push_heading, push_shown};
+use aatry_report::{Field, Teller, push_heading, push_shown, tell};
 use std::alloc::{AllocError, Global};
 
 /// For what a rule is missing.
@@ -33,11 +32,7 @@ pub fn pasted_rule(alloc: Global, rule: &Rule) -> Result<Vec<u8>, AllocError>
 {
     match written_rule(alloc, rule)? {
         Some(text) => Ok(text),
-        None => {
-            let mut text = Vec::new(alloc);
-            push_rule(&mut text, rule)?;
-            Ok(text)
-        }
+        None => rule_text(alloc, rule),
     }
 }
 
@@ -51,25 +46,24 @@ fn missing_words(case: Missing) -> &'static str
     }
 }
 
-// Puts that a rule is missing where a script is started into a record.
-fn put_case(alloc: Global, case: Missing, into: &mut Record) -> Result<(), AllocError>
-    ensures { OnOk result (seen_record into.new ≡ with_case case (seen_record into.old)) }
+// That a rule is missing where a script is started, in the record.
+fn case_part<'x>(case: Missing) -> Field<'x>
+    ensures { seen_field result ≡ case_part case }
 {
     match case {
-        Missing::OfRequest => Ok(()),
-        Missing::OfScript => into.put_text(alloc, "for", b"script"),
+        Missing::OfRequest => Field::Words(""),
+        Missing::OfScript => Field::MemberWord("for", "script"),
     }
 }
 
-// The record of a missing rule.
-fn missing_record(alloc: Global, case: Missing, rule: &Rule) -> Result<Record, AllocError>
-    ensures { IfOk result (λ made. seen_record made ≡ missing_record case rule.now) }
+// A rule as `show` prints it, as it is shown.
+fn shown_rule(alloc: Global, rule: &Rule) -> Result<Vec<u8>, AllocError>
+    ensures { IfOk result (λ text. text.items ≡ shown_rule rule.now) }
 {
-    let mut made = Record::new(alloc, "missing")?;
-    let text = pasted_rule(alloc, rule)?;
-    made.put_text(alloc, "rule", &text)?;
-    put_case(alloc, case, &mut made)?;
-    Ok(made)
+    let text = rule_text(alloc, rule)?;
+    let mut told = Vec::new(alloc);
+    push_shown(&mut told, &text)?;
+    Ok(told)
 }
 
 // Whether a text is shown as it is: a terminal obeys none of its bytes.
@@ -81,36 +75,20 @@ fn is_shown_whole(alloc: Global, text: &[u8]) -> Result<bool, AllocError>
     Ok(told.as_slice() == text)
 }
 
-/// Appends a missing rule to a text, like `pasted_rule`; where a terminal would obey one of its bytes, as `show` prints it.
+/// A missing rule, as it is shown: like `pasted_rule`; where a terminal would obey one of its bytes, as `show` prints it.
 ///
 /// # Errors
 ///
-/// Where memory runs out. A beginning may have been appended then.
-pub fn push_shown_missing(alloc: Global, rule: &Rule, out: &mut Vec<u8>) -> Result<(), AllocError>
-    ensures { OnOk result (out.new.items ≡ out.old.items ++ shown_missing rule.now) }
+/// Where memory runs out.
+pub fn shown_missing(alloc: Global, rule: &Rule) -> Result<Vec<u8>, AllocError>
+    ensures { IfOk result (λ text. text.items ≡ shown_missing rule.now) }
 {
     let text = pasted_rule(alloc, rule)?;
     if is_shown_whole(alloc, &text)? {
-        out.extend_from_slice(&text)
+        Ok(text)
     } else {
-        push_shown_rule(alloc, rule, out)
+        shown_rule(alloc, rule)
     }
-}
-
-// Appends the line of a missing rule to a text, below words of its own.
-fn push_missing_line(
-    alloc: Global,
-    case: Missing,
-    rule: &Rule,
-    out: &mut Vec<u8>,
-) -> Result<(), AllocError>
-    ensures { OnOk result (out.new.items ≡ out.old.items ++ missing_line Lines case rule.now) }
-{
-    push_heading(Form::Lines, missing_words(case), out)?;
-    out.extend_from_slice(b"  ")?;
-    push_shown_missing(alloc, rule, out)?;
-    out.push(b'\n')?;
-    Ok(())
 }
 
 /// Appends the line of a missing rule to a text, below words of its own; or a record of it, of the kind `missing`, with `for` where it is missing
@@ -128,8 +106,18 @@ pub fn push_missing(
 ) -> Result<(), AllocError>
     ensures { OnOk result (out.new.items ≡ out.old.items ++ missing_line teller.form case rule.now) }
 {
-    match teller.form {
-        Form::Lines => push_missing_line(teller.alloc, case, rule, out),
-        Form::Records => missing_record(teller.alloc, case, rule)?.push(teller.alloc, out),
-    }
+    let shown = shown_missing(teller.alloc, rule)?;
+    let text = pasted_rule(teller.alloc, rule)?;
+    push_heading(teller.form, missing_words(case), out)?;
+    tell(
+        teller,
+        "missing",
+        &[
+            Field::Words("  "),
+            Field::Bytes(&shown),
+            Field::Member("rule", &text),
+            case_part(case),
+        ],
+        out,
+    )
 }

@@ -1,6 +1,0 @@
-use Rattle.std.proofs.Common.{append_assoc}
-use Rattle.aatry_why.proofs.replies.push_name_line.Goals as goal
-
-pub returns : goal.returns
-returns c =
-    rw (c.in_ok-push-2.ensures.items, c.in_ok-push.ensures.items, c.in_ok-push_text.ensures, c.in_ok-extend_from_slice.ensures.items) (simp append_assoc)
