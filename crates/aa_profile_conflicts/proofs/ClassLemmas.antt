@@ -1,11 +1,15 @@
 -- Leads have one class exactly where their transitions are the same.
-use Rattle.std.proofs.Common.{◌≡◌, ◌⊎◌, ℕ, zero, suc, ◌<◌, ◌≤◌, true, false, List, [], ◌∷◌, ◌++◌, length, Option, None, Some, arith, ap, refl, sym, subst, ◌∙◌, inl, inr}
-use Rattle.std.specs.Prelude.{slice_get, slice_index_or}
+use Rattle.std.proofs.Common.{◌≡◌, ◌⊎◌, ℕ, zero, suc, ◌<◌, ◌≤◌, Bool, true, false, List, [], ◌∷◌, ◌++◌, length, Option, None, Some, arith, ap, refl, sym, subst, ◌∙◌, inl, inr}
+use Rattle.std.specs.Prelude.{if◌then◌else◌, is_none, slice_get, slice_index_or}
 use Rattle.std.specs.Borrow.{Bor}
+use Rattle.std.specs.Str.{bytes_eq}
+use Rattle.std.proofs.lemmas.Slice.Eq.{bytes_eq-Decides}
+use Rattle.aa_bytes.specs.NameMaps.{GivesNumber, number_of}
+use Rattle.aa_bytes.specs.declared.name_map.NameMap.{NameMap}
 use Rattle.std.proofs.lemmas.List.{length-map, map-append}
 use Rattle.std.proofs.lemmas.Option.{slice_get_within, slice_get_past}
-use Rattle.aa_profile_data.proofs.TransitionLemmas.{same-refl, same-sym, same-trans}
-use Rattle.aa_profile_conflicts.specs.Classes.{AreClassesBy, AreDifferent, HaveClasses, IsNew, is_class_of, seen_transitions}
+use Rattle.aa_profile_data.proofs.TransitionLemmas.{same-equal, same-refl, same-sym, same-trans}
+use Rattle.aa_profile_conflicts.specs.Classes.{AreClassesBy, AreDifferent, AreKeyed, HaveClasses, IsNew, is_class_of, key_of, seen_transitions}
 use Rattle.aa_profile_data.specs.Conflicts.{Lead, same_transition}
 use Rattle.aa_profile_data.specs.declared.profile.Transition.{Transition}
 
@@ -159,3 +163,48 @@ module _ (leads : List Lead) (transitions : List Transition) (classes : List ℕ
       let first = slice_get_within transitions (slice_index_or classes j 0) class-of-one.0 class-of-one.1 in
       let second = slice_get_within transitions (slice_index_or classes k 0) class-of-other.0 class-of-other.1 in
       same-of-classes (omega arith)
+
+-- of a transition whose key has no number there is no class
+pub unkeyed-new : (transitions : List Transition) (map : NameMap) (transition : Transition) → AreKeyed transitions map → number_of map (key_of transition) ≡ None
+    → IsNew transitions transition
+unkeyed-new transitions map transition keyed unkeyed class = by (is_class_of transitions class transition) refl
+  where
+    by : (found : Bool) → is_class_of transitions class transition ≡ found → is_class_of transitions class transition ≡ false
+    by false e = e
+    by true e =
+        let (own, there, same) = class-own transitions class transition e in
+        let has : is_none (number_of map (key_of own)) ≡ false = keyed class own there in
+        let equal : own ≡ transition = same-equal own transition same in
+        let none : is_none (number_of map (key_of own)) ≡ true = rw (equal, unkeyed) refl in
+        absurd (cc)
+
+pub keyed-none : (map : NameMap) → AreKeyed [] map
+keyed-none map class own there = absurd (cc)
+
+-- who has a number keeps one, and the given name has one
+gives-others : (before after : NameMap) (name other : List ℕ) (number : ℕ) → GivesNumber before name number after → is_none (number_of before other) ≡ false
+    → is_none (number_of after other) ≡ false
+gives-others before after name other number gives has = ap is_none (gives other) ∙ by (bytes_eq name other)
+  where
+    by : (same : Bool) → is_none (if same then Some number else number_of before other) ≡ false
+    by true = refl
+    by false = has
+
+gives-own : (before after : NameMap) (name : List ℕ) (number : ℕ) → GivesNumber before name number after → is_none (number_of after name) ≡ false
+gives-own before after name number gives =
+    ap is_none (gives name) ∙ ap (λ (same : Bool). is_none (if same then Some number else number_of before name)) ((bytes_eq-Decides name name).1 refl)
+
+keyed-more : (transitions : List Transition) (more : Transition) (before after : NameMap) (number : ℕ) → AreKeyed transitions before
+    → GivesNumber before (key_of more) number after → AreKeyed (transitions ++ more ∷ []) after
+keyed-more transitions more before after number keyed gives class own there =
+    elim (get-cases transitions more class own there) [
+      | inl front ↦ gives-others before after (key_of more) (key_of own) number gives (keyed class own front)
+      | inr last ↦ subst (λ (t : Transition). is_none (number_of after (key_of t)) ≡ false) last.1 (gives-own before after (key_of more) number gives)
+    ]
+
+-- the same of transitions as the code has them
+pub keyed-pushed : (transitions : List (Bor Transition)) (transition : Bor Transition) (before after : NameMap) (number : ℕ) → AreKeyed (seen_transitions transitions) before
+    → GivesNumber before (key_of transition.now) number after → AreKeyed (seen_transitions (transitions ++ transition ∷ [])) after
+keyed-pushed transitions transition before after number keyed gives =
+    subst (λ (ts : List Transition). AreKeyed ts after) (sym (map-append (λ (t : Bor Transition). t.now) transitions (transition ∷ [])))
+    (keyed-more (seen_transitions transitions) transition.now before after number keyed gives)

@@ -1,9 +1,12 @@
 -- Classes of leads: which of them have the same transition.
-use Rattle.std.specs.Prelude.{◌≡◌, ℕ, Bool, true, false, List, [], ◌∷◌, ◌++◌, Option, None, Some, MatchOption, map, slice_get}
+use Rattle.std.specs.Prelude.{◌≡◌, ℕ, Bool, true, false, List, [], ◌∷◌, ◌++◌, Option, None, Some, MatchOption, is_none, map, slice_get}
 use Rattle.std.specs.Borrow.{Bor}
+use Rattle.aa_bytes.specs.NameMaps.{number_of}
+use Rattle.aa_bytes.specs.declared.name_map.NameMap.{NameMap}
 use Rattle.aa_profile_conflicts.specs.declared.classes.Classes.{Classes}
 use Rattle.aa_profile_conflicts.specs.Leads.{leads}
 use Rattle.aa_profile_data.specs.Conflicts.{Lead, same_transition}
+use Rattle.aa_profile_data.specs.ExecWords.{row}
 use Rattle.aa_profile_data.specs.declared.profile.Rank.{Rank}
 use Rattle.aa_profile_data.specs.declared.profile.Rule.{Rule}
 use Rattle.aa_profile_data.specs.declared.profile.Transition.{Transition}
@@ -24,6 +27,19 @@ IsNew transitions transition = (class : ℕ) → is_class_of transitions class t
 abbrev pub IsClassIn : List Transition → Transition → Option ℕ → Type 0
 IsClassIn transitions transition class =
     MatchOption class (IsNew transitions transition) (λ class. is_class_of transitions class transition ≡ true)
+
+-- the bytes of a target, none where there is none
+abbrev pub target_bytes : Option (List ℕ) → List ℕ
+target_bytes target = elim target [ None ↦ [] | Some name ↦ name ]
+
+-- by what a transition is looked up: its exec word, and its target
+abbrev pub key_of : Transition → List ℕ
+key_of transition = (row transition.word).text ++ target_bytes transition.target
+
+-- the key of each of some transitions has a number
+abbrev pub AreKeyed : List Transition → NameMap → Type 0
+AreKeyed transitions map =
+    (class : ℕ) (own : Transition) → slice_get transitions class ≡ Some own → is_none (number_of map (key_of own)) ≡ false
 
 -- no two of some transitions are the same
 abbrev pub AreDifferent : List Transition → Type 0

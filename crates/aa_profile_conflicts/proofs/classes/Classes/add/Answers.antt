@@ -1,13 +1,14 @@
 use Rattle.std.proofs.Common.{◌≡◌, ◌++◌, ◌∷◌, [], ◌∙◌, List, ℕ, ap, length, subst, sym, true, arith}
 use Rattle.std.proofs.lemmas.Result.{on_ok_weaker}
 use Rattle.std.specs.Borrow.{Bor}
-use Rattle.aa_profile_conflicts.proofs.ClassLemmas.{classes-known, classes-pushed}
-use Rattle.aa_profile_conflicts.specs.Classes.{AreClassesBy, IsNew, is_class_of, seen_transitions}
+use Rattle.aa_bytes.specs.NameMaps.{GivesNumber}
+use Rattle.aa_profile_conflicts.proofs.ClassLemmas.{classes-known, classes-pushed, keyed-pushed}
+use Rattle.aa_profile_conflicts.specs.Classes.{AreClassesBy, AreKeyed, IsNew, is_class_of, key_of, seen_transitions}
 use Rattle.aa_profile_data.specs.declared.profile.Transition.{Transition}
 use Rattle.aa_profile_conflicts.proofs.classes.Classes.add.Goals as goal
 
-pub returns-in-Some : goal.returns-in-Some
-returns-in-Some c =
+pub returns-in-Some-clause-classes : goal.returns-in-Some-clause-classes
+returns-in-Some-clause-classes c =
     let transitions = c.args.self.now.transitions.items in
     let classes = c.args.self.now.classes.items in
     on_ok_weaker c.push_class.result (λ last leads lead is are.
@@ -18,8 +19,18 @@ returns-in-Some c =
     subst (λ (cs : List ℕ). AreClassesBy (leads ++ lead ∷ []) (seen_transitions transitions) cs) (sym last)
     (classes-known leads (seen_transitions transitions) classes lead c.in-Some.class are own)) c.push_class.ensures
 
-pub returns-in_ok-push-in-None : goal.returns-in_ok-push-in-None
-returns-in_ok-push-in-None c =
+pub returns-clause-keyed : goal.returns-clause-keyed
+returns-clause-keyed c =
+    let before = c.args.self.now.by_key in
+    let after = c.insert.new.self in
+    let gives : GivesNumber before (key_of c.args.transition.now) c.len-class.result after =
+    subst (λ (name : List ℕ). GivesNumber before name c.len-class.result after) (c.deref-in-None.ensures.value ∙ c.in_ok-key.ensures) c.in_ok-insert-in-None.ensures.ok in
+    on_ok_weaker c.push_class-in-None.result (λ last.
+    subst (λ (ts : List (Bor Transition)). AreKeyed (seen_transitions ts) after) (sym c.in_ok-push-in-None.ensures.items)
+    (keyed-pushed c.args.self.now.transitions.items c.args.transition before after c.len-class.result c.requires gives)) c.push_class-in-None.ensures
+
+pub returns-clause-classes : goal.returns-clause-classes
+returns-clause-classes c =
     let transitions = c.args.self.now.transitions.items in
     let classes = c.args.self.now.classes.items in
     on_ok_weaker c.push_class-in-None.result (λ last leads lead is are.
