@@ -17,7 +17,7 @@ use aa_decide_ready::IndexedSlots;
 use aa_profile_parsing::Language;
 use aa_start::FileSystem;
 use aatry_arguments::Check;
-use aatry_claims::PathsReport;
+use aatry_claims::{PathsReport, slices_of};
 use aatry_folder::{Fault, Folders, PolicyFolder, Report, failed_by, policy_below};
 use aatry_policy::{FolderParts, LoadedFolder, Origin, by_parts, load_folder, parts_of};
 use aatry_report::Teller;
@@ -181,17 +181,6 @@ fn tell_loaded(
     };
     let told = tell_parts(teller, how, checked, names, out)?;
     Ok(told)
-}
-
-// The bytes of words, none of them copied.
-fn slices_of(alloc: Global, words: &[String]) -> Result<Vec<&[u8]>, AllocError>
-    ensures { IfOk result (λ slices. map (λ name. name.now) slices.items ≡ map string_bytes words.now) }
-{
-    let mut slices = Vec::with_capacity(alloc, words.len())?;
-    for word in words {
-        slices.push(word.as_bytes())?;
-    }
-    Ok(slices)
 }
 
 // Checks the rules of a folder that was read.

@@ -18,7 +18,7 @@ pub use breaking::{Claimed, breaking_of};
 pub use faults::paths_fault;
 pub use found::{Finding, Found, Inquiry, asks_rules, every_rule, find};
 pub use held::{is_held, is_undecided};
-pub use never::{PathsReport, paths_folder};
+pub use never::{PathsReport, paths_folder, slices_of};
 pub use patterns::asked_patterns;
 pub use sentences::{owner_note, owner_word, push_absent, push_found};
 pub use words::{PathWords, letters_of, path_words, whose_of};

@@ -93,8 +93,12 @@ fn tell(
     Ok(has_undecided(&found))
 }
 
-// The bytes of words, none of them copied.
-fn slices_of(alloc: Global, words: &[String]) -> Result<Vec<&[u8]>, AllocError>
+/// The bytes of words, none of them copied.
+///
+/// # Errors
+///
+/// Where memory runs out.
+pub fn slices_of(alloc: Global, words: &[String]) -> Result<Vec<&[u8]>, AllocError>
     ensures { IfOk result (λ slices. map (λ word. word.now) slices.items ≡ map string_bytes words.now) }
 {
     let mut slices = Vec::with_capacity(alloc, words.len())?;

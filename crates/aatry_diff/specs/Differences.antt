@@ -10,15 +10,15 @@ use Rattle.aatry_requests.specs.Counts.{times_text}
 use Rattle.aatry_requests.specs.Questions.{rule_request}
 use Rattle.aatry_requests.specs.Tallies.{Tally}
 use Rattle.aatry_requests.specs.Texts.{question_text}
-use Rattle.aatry_report.specs.Fields.{Bytes, Member, MemberNumber, Words, told}
+use Rattle.aatry_report.specs.Fields.{Bytes, MemberNumber, Plain, Words, told}
 use Rattle.aatry_report.specs.declared.form.Form.{Form}
 
 -- a question, the answer before and after, and how often it occurred, in words and as a number
 abbrev pub question_told : Form → (question before after times : List ℕ) → ℕ → List ℕ
 question_told form question before after times number =
     told form (codes "question")
-    (Bytes question ∷ Member (codes "question") question ∷ Words (codes ": ") ∷ Bytes before ∷ Member (codes "before") before ∷ Words (codes " -> ")
-    ∷ Bytes after ∷ Member (codes "after") after ∷ Words (codes " (") ∷ Bytes times ∷ MemberNumber (codes "times") number ∷ Words (codes ")") ∷ [])
+    (Plain (codes "question") question ∷ Words (codes ": ") ∷ Plain (codes "before") before ∷ Words (codes " -> ")
+    ∷ Plain (codes "after") after ∷ Words (codes " (") ∷ Bytes times ∷ MemberNumber (codes "times") number ∷ Words (codes ")") ∷ [])
 
 abbrev pub told_question : Form → Difference → List ℕ
 told_question form difference =

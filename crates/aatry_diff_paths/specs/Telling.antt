@@ -27,7 +27,7 @@ use Rattle.aatry_claims.specs.Sentences.{absent_told, owner_note, owner_word}
 use Rattle.aatry_policy.specs.FolderParts.{FolderParts}
 use Rattle.aatry_policy.specs.Parts.{Part}
 use Rattle.aatry_reach.specs.Telling.{place_text}
-use Rattle.aatry_report.specs.Fields.{Bytes, Member, MemberWord, Text, Word, Words, told}
+use Rattle.aatry_report.specs.Fields.{Member, MemberWord, Plain, Text, Word, Words, told}
 use Rattle.aatry_report.specs.declared.form.Form.{Form}
 use Rattle.aatry_report.specs.declared.form.Form.TheVariants.{Lines, Records}
 use Rattle.aatry_shared.specs.Differing.{told_lines}
@@ -69,9 +69,9 @@ tells_logs answers = is_otherwise (change_between false answers.old answers.new)
 unfoldable pub path_by : Form → (name letters path note owned before after : List ℕ) → List ℕ
 path_by form name letters path note owned before after =
     told form (codes "path")
-    (Member (codes "name") name ∷ Words (codes "      ") ∷ Bytes letters ∷ Member (codes "letters") letters ∷ Words (codes " of ")
-    ∷ Text (codes "path") path ∷ Words note ∷ MemberWord (codes "owned") owned ∷ Words (codes ": ") ∷ Bytes before ∷ Member (codes "before") before
-    ∷ Words (codes " -> ") ∷ Bytes after ∷ Member (codes "after") after ∷ [])
+    (Member (codes "name") name ∷ Words (codes "      ") ∷ Plain (codes "letters") letters ∷ Words (codes " of ")
+    ∷ Text (codes "path") path ∷ Words note ∷ MemberWord (codes "owned") owned ∷ Words (codes ": ") ∷ Plain (codes "before") before
+    ∷ Words (codes " -> ") ∷ Plain (codes "after") after ∷ [])
 
 abbrev pub path_told : Form → List ℕ → FileChange → List ℕ
 path_told form name change =
@@ -114,13 +114,13 @@ unfoldable pub capability_by : Form → (name capability before after : List ℕ
 capability_by form name capability before after =
     told form (codes "capability")
     (Member (codes "name") name ∷ Words (codes "  capability ") ∷ Word (codes "capability") capability ∷ Words (codes ": ")
-    ∷ Bytes before ∷ Member (codes "before") before ∷ Words (codes " -> ") ∷ Bytes after ∷ Member (codes "after") after ∷ [])
+    ∷ Plain (codes "before") before ∷ Words (codes " -> ") ∷ Plain (codes "after") after ∷ [])
 
 unfoldable pub sockets_by : Form → (name domain kind before after : List ℕ) → List ℕ
 sockets_by form name domain kind before after =
     told form (codes "sockets")
     (Member (codes "name") name ∷ Words (codes "  sockets ") ∷ Word (codes "domain") domain ∷ Words (codes " ") ∷ Word (codes "type") kind
-    ∷ Words (codes ": ") ∷ Bytes before ∷ Member (codes "before") before ∷ Words (codes " -> ") ∷ Bytes after ∷ Member (codes "after") after ∷ [])
+    ∷ Words (codes ": ") ∷ Plain (codes "before") before ∷ Words (codes " -> ") ∷ Plain (codes "after") after ∷ [])
 
 -- what is answered otherwise that is no file
 abbrev pub other_by : Form → List ℕ → Other → (before after : List ℕ) → List ℕ

@@ -17,7 +17,7 @@ use aa_profile_parsing::Language;
 use aa_start::FileSystem;
 use aatry_arguments::PathComparison;
 use aatry_changes::Compared;
-use aatry_claims::PathsReport;
+use aatry_claims::{PathsReport, slices_of};
 use aatry_folder::{Fault, Folders, PolicyFolder, Report, failed_by, policy_below};
 use aatry_path_changes::{
     Found, Policies, Question, find_asked, has_otherwise, has_undecided, kinds_of,
@@ -25,7 +25,7 @@ use aatry_path_changes::{
 use aatry_policy::{FolderParts, LoadedFolder, by_parts, load_folder, parts_of};
 use aatry_report::Teller;
 use aatry_uncertain::{LeftOutHeads, heads_left_out};
-use std::alloc::{AllocError, Global};
+use std::alloc::AllocError;
 
 /// How two folders are compared.
 #[derive(Clone, Copy)]
@@ -165,17 +165,6 @@ fn tell_loaded(
         new: &new_set.slots(),
     };
     tell_with_left_out(teller, asked, policies, new, &folders, who, out)
-}
-
-// The bytes of words, none of them copied.
-fn slices_of(alloc: Global, words: &[String]) -> Result<Vec<&[u8]>, AllocError>
-    ensures { IfOk result (λ slices. map (λ name. name.now) slices.items ≡ map string_bytes words.now) }
-{
-    let mut slices = Vec::with_capacity(alloc, words.len())?;
-    for word in words {
-        slices.push(word.as_bytes())?;
-    }
-    Ok(slices)
 }
 
 // The same of folders that were read.

@@ -3,7 +3,7 @@ use Rattle.std.specs.Prelude.{◌≡◌, ℕ, ◌+◌, ◌==◌, if◌then◌els
 use Rattle.aatry_folder.specs.Reports.{failed_by}
 use Rattle.aatry_log.specs.Prefixed.{prefixed_text}
 use Rattle.aatry_policy.specs.Folders.{Folder, policy_in}
-use Rattle.aatry_report.specs.Fields.{Bytes, Member, MemberNumber, Words, told}
+use Rattle.aatry_report.specs.Fields.{Bytes, Member, MemberNumber, Plain, Words, told}
 use Rattle.aatry_report.specs.declared.form.Form.{Form}
 use Rattle.aatry_requests.specs.Counts.{times_text}
 use Rattle.aatry_requests.specs.Order.{IsMostAskedFirst}
@@ -21,8 +21,8 @@ last_text span = if span.first == span.last then [] else codes " to " ++ time_te
 unfoldable pub times_told : Form → ℕ → (times first behind last question : List ℕ) → List ℕ
 times_told form number times first behind last question =
     told form (codes "request")
-    (Bytes times ∷ MemberNumber (codes "times") number ∷ Words (codes " (") ∷ Bytes first ∷ Member (codes "first") first ∷ Bytes behind
-    ∷ Member (codes "last") last ∷ Words (codes "): ") ∷ Bytes question ∷ Member (codes "question") question ∷ [])
+    (Bytes times ∷ MemberNumber (codes "times") number ∷ Words (codes " (") ∷ Plain (codes "first") first ∷ Bytes behind
+    ∷ Member (codes "last") last ∷ Words (codes "): ") ∷ Plain (codes "question") question ∷ [])
 
 abbrev pub spanned_text : Form → (number : ℕ) → (times : List ℕ) → Span → (question : List ℕ) → List ℕ
 spanned_text form number times span question =
@@ -32,7 +32,7 @@ spanned_text form number times span question =
 unfoldable pub timeless_told : Form → ℕ → (times question : List ℕ) → List ℕ
 timeless_told form number times question =
     told form (codes "request")
-    (Bytes times ∷ MemberNumber (codes "times") number ∷ Words (codes ": ") ∷ Bytes question ∷ Member (codes "question") question ∷ [])
+    (Bytes times ∷ MemberNumber (codes "times") number ∷ Words (codes ": ") ∷ Plain (codes "question") question ∷ [])
 
 abbrev pub head_by : Form → (number : ℕ) → (times : List ℕ) → Option Span → (question : List ℕ) → List ℕ
 head_by form number times None question = timeless_told form number times question

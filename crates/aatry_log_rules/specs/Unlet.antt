@@ -6,7 +6,7 @@ use Rattle.aa_set_commands.specs.Question.{OfAccess, OfExec, Question}
 use Rattle.aatry_log_rules.specs.Wanted.{Wanted}
 use Rattle.aatry_log_rules.specs.declared.finding.NoRule.{NoRule}
 use Rattle.aatry_log_rules.specs.declared.finding.NoRule.TheVariants.{Denied, InTheWay, Unwritten}
-use Rattle.aatry_report.specs.Fields.{Bytes, Member, MemberNumber, Word, Words, told}
+use Rattle.aatry_report.specs.Fields.{Bytes, MemberNumber, Plain, Word, Words, told}
 use Rattle.aatry_report.specs.declared.form.Form.{Form}
 use Rattle.aatry_requests.specs.Counts.{times_text}
 use Rattle.aatry_requests.specs.Texts.{question_text}
@@ -35,7 +35,7 @@ question_of wanted = question_for wanted.who wanted.request
 unfoldable pub no_rule_told : Form → (reason question times : List ℕ) → ℕ → List ℕ
 no_rule_told form reason question times number =
     told form (codes "no_rule")
-    (Words (codes "# ") ∷ Word (codes "reason") reason ∷ Words (codes ": ") ∷ Bytes question ∷ Member (codes "question") question
+    (Words (codes "# ") ∷ Word (codes "reason") reason ∷ Words (codes ": ") ∷ Plain (codes "question") question
     ∷ Words (codes ", asked ") ∷ Bytes times ∷ MemberNumber (codes "times") number ∷ [])
 
 abbrev pub unlet_text : Form → NoRule → Question → ℕ → List ℕ

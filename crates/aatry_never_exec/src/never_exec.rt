@@ -12,10 +12,10 @@ use crate::telling::{has_many, is_refuted, push_all};
 use aa_profile_parsing::Language;
 use aa_start::FileSystem;
 use aatry_arguments::{AllPaths, Asking};
-use aatry_claims::{PathsReport, paths_fault, paths_folder};
+use aatry_claims::{PathsReport, paths_fault, paths_folder, slices_of};
 use aatry_folder::{Fault, Folders, PolicyFolder, Report, failed_by, policy_below};
 use aatry_policy::{LoadedFolder, load_folder};
-use aatry_reach::{find, slices_of};
+use aatry_reach::find;
 use aatry_report::Teller;
 use std::alloc::{AllocError, Global};
 

@@ -9,5 +9,5 @@ mod telling;
 
 pub use finding::{Finding, Found, find};
 pub use places::place_text;
-pub use reach::{reach_folder, slices_of};
+pub use reach::reach_folder;
 pub use telling::push_node;

@@ -14,11 +14,11 @@ use aa_decide::IndexedSlots;
 use aa_profile_parsing::Language;
 use aa_start::FileSystem;
 use aatry_arguments::{Asking, Reach};
-use aatry_claims::PathsReport;
+use aatry_claims::{PathsReport, slices_of};
 use aatry_folder::{Fault, Folders, PolicyFolder, Report, failed_by, policy_below};
 use aatry_policy::{LoadedFolder, load_folder};
 use aatry_report::{Form, Teller};
-use std::alloc::{AllocError, Global};
+use std::alloc::AllocError;
 
 /// How it is asked and told.
 #[derive(Clone, Copy)]
@@ -75,21 +75,6 @@ fn tell(
         absent: has_absent(&found),
         undecided: has_undecided(&found),
     })
-}
-
-/// The bytes of words, none of them copied.
-///
-/// # Errors
-///
-/// Where memory runs out.
-pub fn slices_of(alloc: Global, words: &[String]) -> Result<Vec<&[u8]>, AllocError>
-    ensures { IfOk result (λ slices. map (λ word. word.now) slices.items ≡ map string_bytes words.now) }
-{
-    let mut slices = Vec::with_capacity(alloc, words.len())?;
-    for word in words {
-        slices.push(word.as_bytes())?;
-    }
-    Ok(slices)
 }
 
 // The same of a folder that was read, by words.

@@ -12,13 +12,14 @@ use Rattle.aatry_report.specs.declared.form.Form.{Form}
 use Rattle.aatry_report.specs.declared.form.Form.TheVariants.{Lines, Records}
 use Rattle.aatry_report.specs.declared.place.LinePlace.{LinePlace}
 
--- A field of what is reported. The line alone has words, and bytes that are shown already. Both have a text, which the line shows; one that the line
--- quotes; a word; a number; how many there are of something, in the line where there are some; and a place in a file, or the file alone. The record
--- alone has members.
+-- A field of what is reported. The line alone has words, and bytes that are shown already. Both have a text, which the line shows; one that is shown
+-- already; one that the line quotes; a word; a number; how many there are of something, in the line where there are some; and a place in a file, or the
+-- file alone. The record alone has members.
 pub data Said : Type 0 where
   Words : List ℕ → Said
   Bytes : List ℕ → Said
   Text : (name text : List ℕ) → Said
+  Plain : (name text : List ℕ) → Said
   Quoted : (name text : List ℕ) → Said
   Word : (name word : List ℕ) → Said
   Number : List ℕ → ℕ → Said
@@ -47,6 +48,7 @@ abbrev pub in_line : Said → List ℕ
 in_line (Words words) = words
 in_line (Bytes bytes) = bytes
 in_line (Text name text) = shown text
+in_line (Plain name text) = text
 in_line (Quoted name text) = written_text text
 in_line (Word name word) = word
 in_line (Number name n) = decimal n
@@ -62,6 +64,7 @@ abbrev pub with_field : Said → Record → Record
 with_field (Words words) made = made
 with_field (Bytes bytes) made = made
 with_field (Text name text) made = with_text name text made
+with_field (Plain name text) made = with_text name text made
 with_field (Quoted name text) made = with_text name text made
 with_field (Word name word) made = with_text name word made
 with_field (Number name n) made = with_number name n made

@@ -3,12 +3,13 @@ use Rattle.std.specs.Prelude.{List, map}
 use Rattle.aatry_report.specs.Fields as said
 use Rattle.aatry_report.specs.Fields.{Said}
 use Rattle.aatry_report.specs.declared.telling.Field.{Field}
-use Rattle.aatry_report.specs.declared.telling.Field.TheVariants.{Bytes, Member, MemberNumber, MemberTexts, MemberWord, Number, Place, Quoted, Share, Text, Word, Words}
+use Rattle.aatry_report.specs.declared.telling.Field.TheVariants.{Bytes, Member, MemberNumber, MemberTexts, MemberWord, Number, Place, Plain, Quoted, Share, Text, Word, Words}
 
 abbrev pub seen_field : Field → Said
 seen_field (Words words) = said.Words words.now
 seen_field (Bytes bytes) = said.Bytes bytes.now
 seen_field (Text name text) = said.Text name.now text.now
+seen_field (Plain name text) = said.Plain name.now text.now
 seen_field (Quoted name text) = said.Quoted name.now text.now
 seen_field (Word name word) = said.Word name.now word.now
 seen_field (Number name n) = said.Number name.now n

@@ -25,6 +25,8 @@ pub enum Field<'a> {
     Bytes(&'a [u8]),
     /// A text by a name; the line shows it (`push_shown`).
     Text(&'a str, &'a [u8]),
+    /// A text by a name; the line has it as it is, since it is shown already.
+    Plain(&'a str, &'a [u8]),
     /// A text by a name; the line quotes it (`aa_bytes::push_text`).
     Quoted(&'a str, &'a [u8]),
     /// A word by a name; the line has it as it is.
@@ -79,7 +81,7 @@ fn push_field(field: &Field<'_>, out: &mut Vec<u8>) -> Result<(), AllocError>
 {
     match field {
         Field::Words(words) | Field::Word(_, words) => out.extend_from_slice(words.as_bytes()),
-        Field::Bytes(bytes) => out.extend_from_slice(bytes),
+        Field::Bytes(bytes) | Field::Plain(_, bytes) => out.extend_from_slice(bytes),
         Field::Text(_, text) => push_shown(out, text),
         Field::Quoted(_, text) => push_text(out, text),
         Field::Number(_, number) => push_number(out, "", *number),
@@ -125,9 +127,10 @@ fn put_field(alloc: Global, field: &Field<'_>, into: &mut Record) -> Result<(), 
 {
     match field {
         Field::Words(_) | Field::Bytes(_) => Ok(()),
-        Field::Text(name, text) | Field::Quoted(name, text) | Field::Member(name, text) => {
-            into.put_text(alloc, name, text)
-        }
+        Field::Text(name, text)
+        | Field::Plain(name, text)
+        | Field::Quoted(name, text)
+        | Field::Member(name, text) => into.put_text(alloc, name, text),
         Field::Word(name, word) | Field::MemberWord(name, word) => {
             into.put_text(alloc, name, word.as_bytes())
         }

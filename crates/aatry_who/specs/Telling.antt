@@ -1,7 +1,7 @@
 -- A name that lets a request through, as it is told (docs/aatry.md).
 use Rattle.std.specs.Prelude.{ℕ, List, [], ◌∷◌, Option, None, Some, codes}
 use Rattle.aa_decide.specs.Exec.{Started}
-use Rattle.aatry_report.specs.Fields.{Bytes, Member, Said, Text, Words, told}
+use Rattle.aatry_report.specs.Fields.{Member, Plain, Said, Text, Words, told}
 use Rattle.aatry_report.specs.declared.form.Form.{Form}
 use Rattle.aatry_report.specs.declared.form.Form.TheVariants.{Records}
 use Rattle.aatry_why.specs.Transitions.{destination_base, destination_text}
@@ -14,7 +14,7 @@ member_if name (Some text) = Member name text
 -- its full name, the answer, and under which profile a program runs that it starts
 abbrev pub let_told : Form → (name answer : List ℕ) → (to base : Said) → List ℕ
 let_told form name answer to base =
-    told form (codes "let") (Text (codes "name") name ∷ Words (codes ": ") ∷ Bytes answer ∷ Member (codes "answer") answer ∷ to ∷ base ∷ [])
+    told form (codes "let") (Text (codes "name") name ∷ Words (codes ": ") ∷ Plain (codes "answer") answer ∷ to ∷ base ∷ [])
 
 abbrev pub let_line : Form → (name answer : List ℕ) → Option Started → List ℕ
 let_line form name answer to =

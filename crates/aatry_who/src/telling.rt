@@ -40,8 +40,7 @@ fn push_let_by<'x>(
         &[
             Field::Text("name", name),
             Field::Words(": "),
-            Field::Bytes(answer),
-            Field::Member("answer", answer),
+            Field::Plain("answer", answer),
             to,
             base,
         ],

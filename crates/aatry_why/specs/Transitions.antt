@@ -14,7 +14,7 @@ use Rattle.aa_set_answers.specs.ProfileNames.{full_name_at}
 use Rattle.aa_set_answers.specs.RuleLines.{exec_text}
 use Rattle.aa_set_answers.specs.StackNames.{stack_name}
 use Rattle.aatry_report.specs.Headings.{heading_line}
-use Rattle.aatry_report.specs.Fields.{Bytes, Member, Quoted, Words, told}
+use Rattle.aatry_report.specs.Fields.{Plain, Quoted, Words, told}
 use Rattle.aatry_report.specs.declared.form.Form.{Form}
 use Rattle.aatry_report.specs.declared.form.Form.TheVariants.{Lines, Records}
 
@@ -82,12 +82,12 @@ lack_of transition = lack_text transition.target (row transition.word).destinati
 unfoldable pub led_to : Form → (rule to : List ℕ) → List ℕ
 led_to form rule to =
     told form (codes "transition")
-    (Words (codes "  ") ∷ Bytes rule ∷ Member (codes "rule") rule ∷ Words (codes ": leads to ") ∷ Bytes to ∷ Member (codes "leads_to") to ∷ [])
+    (Words (codes "  ") ∷ Plain (codes "rule") rule ∷ Words (codes ": leads to ") ∷ Plain (codes "leads_to") to ∷ [])
 
 unfoldable pub led_on : Form → (rule to base : List ℕ) → List ℕ
 led_on form rule to base =
     told form (codes "transition")
-    (Words (codes "  ") ∷ Bytes rule ∷ Member (codes "rule") rule ∷ Words (codes ": leads to ") ∷ Bytes to ∷ Member (codes "leads_to") to
+    (Words (codes "  ") ∷ Plain (codes "rule") rule ∷ Words (codes ": leads to ") ∷ Plain (codes "leads_to") to
     ∷ Words (codes ", on ") ∷ Quoted (codes "on") base ∷ [])
 
 abbrev pub led_text : Form → (rule to : List ℕ) → (base : Option (List ℕ)) → List ℕ
@@ -98,14 +98,14 @@ led_text form rule to (Some base) = led_on form rule to base
 unfoldable pub led_nowhere : Form → (rule lack : List ℕ) → List ℕ
 led_nowhere form rule lack =
     told form (codes "transition")
-    (Words (codes "  ") ∷ Bytes rule ∷ Member (codes "rule") rule ∷ Words (codes ": ") ∷ Bytes lack ∷ Member (codes "lacks") lack
+    (Words (codes "  ") ∷ Plain (codes "rule") rule ∷ Words (codes ": ") ∷ Plain (codes "lacks") lack
     ∷ Words (codes ", so it leads nowhere") ∷ [])
 
 unfoldable pub falling_back : Form → (rule lack to : List ℕ) → List ℕ
 falling_back form rule lack to =
     told form (codes "transition")
-    (Words (codes "  ") ∷ Bytes rule ∷ Member (codes "rule") rule ∷ Words (codes ": ") ∷ Bytes lack ∷ Member (codes "lacks") lack
-    ∷ Words (codes ", so it falls back to ") ∷ Bytes to ∷ Member (codes "falls_back_to") to ∷ [])
+    (Words (codes "  ") ∷ Plain (codes "rule") rule ∷ Words (codes ": ") ∷ Plain (codes "lacks") lack
+    ∷ Words (codes ", so it falls back to ") ∷ Plain (codes "falls_back_to") to ∷ [])
 
 abbrev pub lacking_text : Form → (rule lack : List ℕ) → (fallback : Option (List ℕ)) → List ℕ
 lacking_text form rule lack None = led_nowhere form rule lack

@@ -19,8 +19,7 @@ fn push_asked_text<'x>(teller: Teller, text: &'x [u8], out: &mut Vec<u8>) -> Res
         "request",
         &[
             Field::Words("# asks: "),
-            Field::Bytes(text),
-            Field::Member("question", text),
+            Field::Plain("question", text),
         ],
         out,
     )
