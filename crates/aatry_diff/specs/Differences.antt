@@ -6,23 +6,22 @@ use Rattle.aa_set_answers.specs.Answers.{who_asks}
 use Rattle.aatry_shared.specs.Causes.{cause_lines}
 use Rattle.aatry_diff.specs.Differing.{Difference, differences}
 use Rattle.aatry_diff.specs.Folders.{BothFolders}
-use Rattle.aatry_requests.specs.Counts.{times_text}
 use Rattle.aatry_requests.specs.Questions.{rule_request}
 use Rattle.aatry_requests.specs.Tallies.{Tally}
 use Rattle.aatry_requests.specs.Texts.{question_text}
-use Rattle.aatry_report.specs.Fields.{Bytes, MemberNumber, Plain, Words, told}
+use Rattle.aatry_report.specs.Fields.{Plain, Times, Words, told}
 use Rattle.aatry_report.specs.declared.form.Form.{Form}
 
--- a question, the answer before and after, and how often it occurred, in words and as a number
-abbrev pub question_told : Form → (question before after times : List ℕ) → ℕ → List ℕ
-question_told form question before after times number =
+-- a question, the answer before and after, and how often it occurred
+abbrev pub question_told : Form → (question before after : List ℕ) → (times : ℕ) → List ℕ
+question_told form question before after times =
     told form (codes "question")
     (Plain (codes "question") question ∷ Words (codes ": ") ∷ Plain (codes "before") before ∷ Words (codes " -> ")
-    ∷ Plain (codes "after") after ∷ Words (codes " (") ∷ Bytes times ∷ MemberNumber (codes "times") number ∷ Words (codes ")") ∷ [])
+    ∷ Plain (codes "after") after ∷ Words (codes " (") ∷ Times (codes "times") times ∷ Words (codes ")") ∷ [])
 
 abbrev pub told_question : Form → Difference → List ℕ
 told_question form difference =
-    question_told form (question_text difference.tally.question) difference.before difference.after (times_text difference.tally.times) difference.tally.times
+    question_told form (question_text difference.tally.question) difference.before difference.after difference.tally.times
 
 -- the rules that lead to only one of the answers: those that apply to a question's request in one folder, and aren't written in the other
 abbrev pub causes : Form → BothFolders → Question → List ℕ

@@ -10,7 +10,7 @@ use crate::finding::Difference;
 use crate::folders::BothFolders;
 use aa_set_commands::Question;
 use aatry_report::{Field, Teller, tell};
-use aatry_requests::{push_question, push_times, rule_request, who_asks};
+use aatry_requests::{push_question, rule_request, who_asks};
 use aatry_shared::push_causes;
 use std::alloc::AllocError;
 
@@ -20,12 +20,11 @@ fn push_question_told<'x>(
     question: &'x [u8],
     before: &'x [u8],
     after: &'x [u8],
-    times: &'x [u8],
-    number: usize,
+    times: usize,
     out: &mut Vec<u8>,
 ) -> Result<(), AllocError>
     ensures { OnOk result (out.new.items
-        ≡ out.old.items ++ question_told teller.form question.now before.now after.now times.now number) }
+        ≡ out.old.items ++ question_told teller.form question.now before.now after.now times) }
 {
     tell(
         teller,
@@ -37,8 +36,7 @@ fn push_question_told<'x>(
             Field::Words(" -> "),
             Field::Plain("after", after),
             Field::Words(" ("),
-            Field::Bytes(times),
-            Field::MemberNumber("times", number),
+            Field::Times("times", times),
             Field::Words(")"),
         ],
         out,
@@ -55,14 +53,11 @@ fn push_told(
 {
     let mut question = Vec::new(teller.alloc);
     push_question(&mut question, &difference.tally.question.question())?;
-    let mut times = Vec::new(teller.alloc);
-    push_times(&mut times, difference.tally.times)?;
     push_question_told(
         teller,
         &question,
         difference.before.as_slice(),
         difference.after.as_slice(),
-        &times,
         difference.tally.times as usize,
         out,
     )

@@ -3,9 +3,8 @@ use Rattle.std.specs.Prelude.{◌≡◌, ℕ, ◌+◌, ◌==◌, if◌then◌els
 use Rattle.aatry_folder.specs.Reports.{failed_by}
 use Rattle.aatry_log.specs.Prefixed.{prefixed_text}
 use Rattle.aatry_policy.specs.Folders.{Folder, policy_in}
-use Rattle.aatry_report.specs.Fields.{Bytes, Member, MemberNumber, Plain, Words, told}
+use Rattle.aatry_report.specs.Fields.{Bytes, Member, Plain, Times, Words, told}
 use Rattle.aatry_report.specs.declared.form.Form.{Form}
-use Rattle.aatry_requests.specs.Counts.{times_text}
 use Rattle.aatry_requests.specs.Order.{IsMostAskedFirst}
 use Rattle.aatry_requests.specs.Tallies.{Tally}
 use Rattle.aatry_requests.specs.Texts.{question_text}
@@ -17,29 +16,29 @@ use Rattle.aatry_why.specs.Why.{asked_text, has_answer}
 abbrev pub last_text : Span → List ℕ
 last_text span = if span.first == span.last then [] else codes " to " ++ time_text span.last
 
--- the heading of a request: how often it occurred, as a number and in words, when, and its question; by its first time, what is printed after that, and its last
-unfoldable pub times_told : Form → ℕ → (times first behind last question : List ℕ) → List ℕ
-times_told form number times first behind last question =
+-- the heading of a request: how often it occurred, when, and its question; by its first time, what is printed after that, and its last
+unfoldable pub times_told : Form → (times : ℕ) → (first behind last question : List ℕ) → List ℕ
+times_told form times first behind last question =
     told form (codes "request")
-    (Bytes times ∷ MemberNumber (codes "times") number ∷ Words (codes " (") ∷ Plain (codes "first") first ∷ Bytes behind
+    (Times (codes "times") times ∷ Words (codes " (") ∷ Plain (codes "first") first ∷ Bytes behind
     ∷ Member (codes "last") last ∷ Words (codes "): ") ∷ Plain (codes "question") question ∷ [])
 
-abbrev pub spanned_text : Form → (number : ℕ) → (times : List ℕ) → Span → (question : List ℕ) → List ℕ
-spanned_text form number times span question =
-    times_told form number times (time_text span.first) (last_text span) (time_text span.last) question
+abbrev pub spanned_text : Form → (times : ℕ) → Span → (question : List ℕ) → List ℕ
+spanned_text form times span question =
+    times_told form times (time_text span.first) (last_text span) (time_text span.last) question
 
 -- that of one whose times aren't known
-unfoldable pub timeless_told : Form → ℕ → (times question : List ℕ) → List ℕ
-timeless_told form number times question =
+unfoldable pub timeless_told : Form → (times : ℕ) → (question : List ℕ) → List ℕ
+timeless_told form times question =
     told form (codes "request")
-    (Bytes times ∷ MemberNumber (codes "times") number ∷ Words (codes ": ") ∷ Plain (codes "question") question ∷ [])
+    (Times (codes "times") times ∷ Words (codes ": ") ∷ Plain (codes "question") question ∷ [])
 
-abbrev pub head_by : Form → (number : ℕ) → (times : List ℕ) → Option Span → (question : List ℕ) → List ℕ
-head_by form number times None question = timeless_told form number times question
-head_by form number times (Some span) question = spanned_text form number times span question
+abbrev pub head_by : Form → (times : ℕ) → Option Span → (question : List ℕ) → List ℕ
+head_by form times None question = timeless_told form times question
+head_by form times (Some span) question = spanned_text form times span question
 
 abbrev pub head_text : Form → Tally → List ℕ
-head_text form tally = head_by form tally.times (times_text tally.times) tally.span (question_text tally.question)
+head_text form tally = head_by form tally.times tally.span (question_text tally.question)
 
 -- a request, and below it, two spaces in, the present answer of a folder's policy, and on what that could depend, as `why` prints it
 abbrev pub request_text : Form → Folder → Tally → List ℕ

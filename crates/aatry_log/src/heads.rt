@@ -6,7 +6,7 @@ ghost use Rattle.aatry_requests.specs.SeenTallies.{seen_tally};
 ghost use Rattle.aatry_words.specs.Told.{time_text};
 
 use aatry_report::{Field, Teller, tell};
-use aatry_requests::{Span, Tally, push_question, push_times};
+use aatry_requests::{Span, Tally, push_question};
 use aatry_words::push_time;
 use std::alloc::{AllocError, Global};
 
@@ -30,13 +30,11 @@ fn time_text(alloc: Global, time: u64) -> Result<Vec<u8>, AllocError>
     Ok(text)
 }
 
-// Appends the heading of a request to a text, by how often it occurred, as a number and in words, its first time, what is printed after that, its last time,
-// and its question.
+// Appends the heading of a request to a text, by how often it occurred, its first time, what is printed after that, its last time, and its question.
 #[tactic(auto, unfolding(crate::specs::Requests::times_told))]
 fn push_times_told<'x>(
     teller: Teller,
-    number: usize,
-    times: &'x [u8],
+    times: usize,
     first: &'x [u8],
     behind: &'x [u8],
     last: &'x [u8],
@@ -44,14 +42,13 @@ fn push_times_told<'x>(
     out: &mut Vec<u8>,
 ) -> Result<(), AllocError>
     ensures { OnOk result (out.new.items
-        ≡ out.old.items ++ times_told teller.form number times.now first.now behind.now last.now question.now) }
+        ≡ out.old.items ++ times_told teller.form times first.now behind.now last.now question.now) }
 {
     tell(
         teller,
         "request",
         &[
-            Field::Bytes(times),
-            Field::MemberNumber("times", number),
+            Field::Times("times", times),
             Field::Words(" ("),
             Field::Plain("first", first),
             Field::Bytes(behind),
@@ -63,41 +60,38 @@ fn push_times_told<'x>(
     )
 }
 
-// Appends the heading of a request to a text, which occurred in this span, by how often, as a number and in words, and its question.
+// Appends the heading of a request to a text, which occurred in this span, by how often, and its question.
 fn push_spanned(
     teller: Teller,
-    number: usize,
-    times: &[u8],
+    times: usize,
     span: Span,
     question: &[u8],
     out: &mut Vec<u8>,
 ) -> Result<(), AllocError>
-    ensures { OnOk result (out.new.items ≡ out.old.items ++ spanned_text teller.form number times.now span question.now) }
+    ensures { OnOk result (out.new.items ≡ out.old.items ++ spanned_text teller.form times span question.now) }
 {
     let first = time_text(teller.alloc, span.first)?;
     let last = time_text(teller.alloc, span.last)?;
     let mut behind = Vec::new(teller.alloc);
     push_last(&mut behind, span)?;
-    push_times_told(teller, number, times, &first, &behind, &last, question, out)
+    push_times_told(teller, times, &first, &behind, &last, question, out)
 }
 
-// Appends the heading of a request to a text, by how often it occurred, as a number and in words, and its question.
+// Appends the heading of a request to a text, by how often it occurred, and its question.
 #[tactic(auto, unfolding(crate::specs::Requests::timeless_told))]
 fn push_timeless<'x>(
     teller: Teller,
-    number: usize,
-    times: &'x [u8],
+    times: usize,
     question: &'x [u8],
     out: &mut Vec<u8>,
 ) -> Result<(), AllocError>
-    ensures { OnOk result (out.new.items ≡ out.old.items ++ timeless_told teller.form number times.now question.now) }
+    ensures { OnOk result (out.new.items ≡ out.old.items ++ timeless_told teller.form times question.now) }
 {
     tell(
         teller,
         "request",
         &[
-            Field::Bytes(times),
-            Field::MemberNumber("times", number),
+            Field::Times("times", times),
             Field::Words(": "),
             Field::Plain("question", question),
         ],
@@ -114,13 +108,11 @@ fn push_timeless<'x>(
 pub fn push_head(teller: Teller, tally: &Tally<'_>, out: &mut Vec<u8>) -> Result<(), AllocError>
     ensures { OnOk result (out.new.items ≡ out.old.items ++ head_text teller.form (seen_tally tally.now)) }
 {
-    let number = tally.times as usize;
-    let mut times = Vec::new(teller.alloc);
-    push_times(&mut times, tally.times)?;
+    let times = tally.times as usize;
     let mut question = Vec::new(teller.alloc);
     push_question(&mut question, &tally.question.question())?;
     match tally.span {
-        None => push_timeless(teller, number, &times, &question, out),
-        Some(span) => push_spanned(teller, number, &times, span, &question, out),
+        None => push_timeless(teller, times, &question, out),
+        Some(span) => push_spanned(teller, times, span, &question, out),
     }
 }

@@ -6,9 +6,8 @@ use Rattle.aa_set_commands.specs.Question.{OfAccess, OfExec, Question}
 use Rattle.aatry_log_rules.specs.Wanted.{Wanted}
 use Rattle.aatry_log_rules.specs.declared.finding.NoRule.{NoRule}
 use Rattle.aatry_log_rules.specs.declared.finding.NoRule.TheVariants.{Denied, InTheWay, Unwritten}
-use Rattle.aatry_report.specs.Fields.{Bytes, MemberNumber, Plain, Word, Words, told}
+use Rattle.aatry_report.specs.Fields.{Plain, Times, Word, Words, told}
 use Rattle.aatry_report.specs.declared.form.Form.{Form}
-use Rattle.aatry_requests.specs.Counts.{times_text}
 use Rattle.aatry_requests.specs.Texts.{question_text}
 
 -- the words that say why there is none
@@ -31,12 +30,12 @@ question_for who (ForSockets domain kind) = OfAccess who (ForSockets domain kind
 abbrev pub question_of : Wanted → Question
 question_of wanted = question_for wanted.who wanted.request
 
--- a question without a rule, by the reason, in words, and how often it was asked, in words and as a number; in the line it is a comment
-unfoldable pub no_rule_told : Form → (reason question times : List ℕ) → ℕ → List ℕ
-no_rule_told form reason question times number =
+-- a question without a rule, by the reason, in words, and how often it was asked; in the line it is a comment
+unfoldable pub no_rule_told : Form → (reason question : List ℕ) → (times : ℕ) → List ℕ
+no_rule_told form reason question times =
     told form (codes "no_rule")
     (Words (codes "# ") ∷ Word (codes "reason") reason ∷ Words (codes ": ") ∷ Plain (codes "question") question
-    ∷ Words (codes ", asked ") ∷ Bytes times ∷ MemberNumber (codes "times") number ∷ [])
+    ∷ Words (codes ", asked ") ∷ Times (codes "times") times ∷ [])
 
 abbrev pub unlet_text : Form → NoRule → Question → ℕ → List ℕ
-unlet_text form reason question times = no_rule_told form (reason_words reason) (question_text question) (times_text times) times
+unlet_text form reason question times = no_rule_told form (reason_words reason) (question_text question) times

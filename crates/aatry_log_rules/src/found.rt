@@ -9,7 +9,6 @@ ghost use Rattle.aatry_report.specs.SeenFields.{seen_field};
 use crate::wanted::Wanted;
 use aa_profile_data::Rule;
 use aatry_report::{Field, Teller, tell};
-use aatry_requests::push_times;
 use aatry_why_lines::{pasted_rule, shown_missing};
 use std::alloc::AllocError;
 
@@ -23,22 +22,21 @@ fn wider_field(wider: Option<&[u8]>) -> Field<'_>
     }
 }
 
-// Appends a rule to add to a text: as it is shown and as it can be pasted, how often was asked what it allows, as a number and in words, who asks, the file,
-// and a wider rule, if there is one.
+// Appends a rule to add to a text: as it is shown and as it can be pasted, how often was asked what it allows, who asks, the file, and a wider rule, if
+// there is one.
 #[tactic(auto, unfolding(crate::specs::Found::missing_told))]
 fn push_missing<'x>(
     teller: Teller,
     shown: &'x [u8],
     text: &'x [u8],
-    times: &'x [u8],
-    number: usize,
+    times: usize,
     who: &'x [u8],
     path: &'x [u8],
     wider: Field<'x>,
     out: &mut Vec<u8>,
 ) -> Result<(), AllocError>
     ensures { OnOk result (out.new.items
-        ≡ out.old.items ++ missing_told teller.form shown.now text.now times.now number who.now path.now (seen_field wider.entry)) }
+        ≡ out.old.items ++ missing_told teller.form shown.now text.now times who.now path.now (seen_field wider.entry)) }
 {
     tell(
         teller,
@@ -48,8 +46,7 @@ fn push_missing<'x>(
             Field::Bytes(shown),
             Field::Member("rule", text),
             Field::Words("  # asked "),
-            Field::Bytes(times),
-            Field::MemberNumber("times", number),
+            Field::Times("times", times),
             Field::Member("profile", who),
             Field::Member("file", path),
             wider,
@@ -78,13 +75,10 @@ pub fn push_rule(
 {
     let shown = shown_missing(teller.alloc, rule)?;
     let text = pasted_rule(teller.alloc, rule)?;
-    let mut times = Vec::new(teller.alloc);
-    push_times(&mut times, wanted.times)?;
     push_missing(
         teller,
         &shown,
         &text,
-        &times,
         wanted.times as usize,
         wanted.who,
         path,

@@ -10,7 +10,7 @@ use crate::wanted::Wanted;
 use aa_profile_data::{Perms, Request};
 use aa_set_commands::Question;
 use aatry_report::{Field, Teller, tell};
-use aatry_requests::{push_question, push_times};
+use aatry_requests::push_question;
 use std::alloc::AllocError;
 
 // The words that say why there is no rule.
@@ -51,17 +51,16 @@ pub fn question_of<'t>(wanted: &Wanted<'t>) -> Question<'t>
     }
 }
 
-// Appends a question for which there is no rule to add to a text, by the reason, in words, and how often it was asked, in words and as a number.
+// Appends a question for which there is no rule to add to a text, by the reason, in words, and how often it was asked.
 #[tactic(auto, unfolding(crate::specs::Unlet::no_rule_told))]
 fn push_no_rule<'x>(
     teller: Teller,
     reason: &'x str,
     question: &'x [u8],
-    times: &'x [u8],
-    number: usize,
+    times: usize,
     out: &mut Vec<u8>,
 ) -> Result<(), AllocError>
-    ensures { OnOk result (out.new.items ≡ out.old.items ++ no_rule_told teller.form reason.now question.now times.now number) }
+    ensures { OnOk result (out.new.items ≡ out.old.items ++ no_rule_told teller.form reason.now question.now times) }
 {
     tell(
         teller,
@@ -72,8 +71,7 @@ fn push_no_rule<'x>(
             Field::Words(": "),
             Field::Plain("question", question),
             Field::Words(", asked "),
-            Field::Bytes(times),
-            Field::MemberNumber("times", number),
+            Field::Times("times", times),
         ],
         out,
     )
@@ -96,14 +94,5 @@ pub fn push_unlet(
 {
     let mut text = Vec::new(teller.alloc);
     push_question(&mut text, question)?;
-    let mut asked = Vec::new(teller.alloc);
-    push_times(&mut asked, times)?;
-    push_no_rule(
-        teller,
-        reason_words(reason),
-        &text,
-        &asked,
-        times as usize,
-        out,
-    )
+    push_no_rule(teller, reason_words(reason), &text, times as usize, out)
 }

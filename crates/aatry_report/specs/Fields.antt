@@ -13,8 +13,8 @@ use Rattle.aatry_report.specs.declared.form.Form.TheVariants.{Lines, Records}
 use Rattle.aatry_report.specs.declared.place.LinePlace.{LinePlace}
 
 -- A field of what is reported. The line alone has words, and bytes that are shown already. Both have a text, which the line shows; one that is shown
--- already; one that the line quotes; a word; a number; how many there are of something, in the line where there are some; and a place in a file, or the
--- file alone. The record alone has members.
+-- already; one that the line quotes; a word; a number; how often something occurred; how many there are of something, in the line where there are
+-- some; and a place in a file, or the file alone. The record alone has members.
 pub data Said : Type 0 where
   Words : List ℕ → Said
   Bytes : List ℕ → Said
@@ -23,12 +23,17 @@ pub data Said : Type 0 where
   Quoted : (name text : List ℕ) → Said
   Word : (name word : List ℕ) → Said
   Number : List ℕ → ℕ → Said
+  Times : List ℕ → ℕ → Said
   Share : List ℕ → ℕ → List ℕ → Said
   Place : List ℕ → Option LinePlace → Said
   Member : (name text : List ℕ) → Said
   MemberWord : (name word : List ℕ) → Said
   MemberNumber : List ℕ → ℕ → Said
   MemberTexts : List ℕ → List (List ℕ) → Said
+
+-- how often something occurred
+abbrev pub times_text : ℕ → List ℕ
+times_text times = if times == 1 then codes "once" else decimal times ++ codes " times"
 
 -- how many there are of something, in these words, where there are some
 abbrev pub share : ℕ → List ℕ → List ℕ
@@ -52,6 +57,7 @@ in_line (Plain name text) = text
 in_line (Quoted name text) = written_text text
 in_line (Word name word) = word
 in_line (Number name n) = decimal n
+in_line (Times name times) = times_text times
 in_line (Share name n words) = share n words
 in_line (Place path place) = file_place_text path place
 in_line (Member name text) = []
@@ -68,6 +74,7 @@ with_field (Plain name text) made = with_text name text made
 with_field (Quoted name text) made = with_text name text made
 with_field (Word name word) made = with_text name word made
 with_field (Number name n) made = with_number name n made
+with_field (Times name times) made = with_number name times made
 with_field (Share name n words) made = with_number name n made
 with_field (Place path place) made = with_file_place path place made
 with_field (Member name text) made = with_text name text made

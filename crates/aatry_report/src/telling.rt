@@ -1,7 +1,7 @@
 //! What is reported, once for both forms: fields, each of which stands in the line, in the record, or in both.
 
 ghost use Rattle.std.specs.Prelude.{◌≡◌, ◌++◌, IfOk, OnOk, flat_map};
-ghost use Rattle.aatry_report.specs.Fields.{file_place_text, in_line, share, told, with_file_place, with_field, with_fields};
+ghost use Rattle.aatry_report.specs.Fields.{file_place_text, in_line, share, times_text, told, with_file_place, with_field, with_fields};
 ghost use Rattle.aatry_report.specs.Records.{record_of};
 ghost use Rattle.aatry_report.specs.SeenFields.{seen_field, seen_fields};
 ghost use Rattle.aatry_report.specs.SeenRecord.{seen_record};
@@ -33,6 +33,8 @@ pub enum Field<'a> {
     Word(&'a str, &'a str),
     /// A number by a name, in decimal in the line.
     Number(&'a str, usize),
+    /// How often something occurred, by a name: in the line `once`, or the number and `times`.
+    Times(&'a str, usize),
     /// How many there are of something, by a name; where there are some the line has a comma, the number and these words.
     Share(&'a str, usize, &'a str),
     /// A file by its name in reports, and a place in it, if there is one: `PATH:LINE:COLUMN: ` or `PATH: `, and the members `file`, `line` and `column`.
@@ -45,6 +47,17 @@ pub enum Field<'a> {
     MemberNumber(&'a str, usize),
     /// Texts by a name, of the record alone.
     MemberTexts(&'a str, &'a [&'a [u8]]),
+}
+
+// Appends how often something occurred to a text.
+fn push_times(times: usize, out: &mut Vec<u8>) -> Result<(), AllocError>
+    ensures { OnOk result (out.new.items ≡ out.old.items ++ times_text times) }
+{
+    if times == 1 {
+        return out.extend_from_slice(b"once");
+    }
+    push_number(out, "", times)?;
+    out.extend_from_slice(b" times")
 }
 
 // Appends how many there are of something to a text, in these words, where there are some.
@@ -85,6 +98,7 @@ fn push_field(field: &Field<'_>, out: &mut Vec<u8>) -> Result<(), AllocError>
         Field::Text(_, text) => push_shown(out, text),
         Field::Quoted(_, text) => push_text(out, text),
         Field::Number(_, number) => push_number(out, "", *number),
+        Field::Times(_, times) => push_times(*times, out),
         Field::Share(_, count, words) => push_share(*count, words, out),
         Field::Place(path, place) => push_file_place(path, *place, out),
         Field::Member(..)
@@ -135,6 +149,7 @@ fn put_field(alloc: Global, field: &Field<'_>, into: &mut Record) -> Result<(), 
             into.put_text(alloc, name, word.as_bytes())
         }
         Field::Number(name, number)
+        | Field::Times(name, number)
         | Field::Share(name, number, _)
         | Field::MemberNumber(name, number) => into.put_number(alloc, name, *number),
         Field::Place(path, place) => put_file_place(alloc, path, *place, into),

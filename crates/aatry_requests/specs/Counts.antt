@@ -9,10 +9,6 @@ use Rattle.aatry_requests.specs.Gathering.{Gathered}
 abbrev pub number_text : ℕ → List ℕ → List ℕ
 number_text number words = decimal number ++ words
 
--- how often something occurred
-abbrev pub times_text : ℕ → List ℕ
-times_text times = if times == 1 then codes "once" else number_text times (codes " times")
-
 -- A share of the questions: how many they are, the words for them in a line, and the name of their number in a record.
 pub record Share : Type 0 where
   pub number : ℕ

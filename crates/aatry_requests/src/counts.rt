@@ -2,7 +2,7 @@
 
 ghost use Rattle.std.specs.Prelude.{◌≡◌, ◌++◌, IfOk, OnOk};
 ghost use Rattle.aatry_report.specs.SeenFields.{seen_fields};
-ghost use Rattle.aatry_requests.specs.Counts.{number_text, summary_fields, summary_text, times_text};
+ghost use Rattle.aatry_requests.specs.Counts.{number_text, summary_fields, summary_text};
 ghost use Rattle.aatry_requests.specs.Gathering.{seen_requests};
 ghost use Rattle.aatry_requests.specs.SeenShares.{seen_share};
 
@@ -23,20 +23,6 @@ pub fn push_number(out: &mut Vec<u8>, number: u64, behind: &[u8]) -> Result<(), 
     out.extend_from_slice(digits.format(number).as_bytes())?;
     out.extend_from_slice(behind)?;
     Ok(())
-}
-
-/// Appends how often something occurred to a text: `once`, or the number and `times`.
-///
-/// # Errors
-///
-/// Where memory runs out. A beginning may have been appended then.
-pub fn push_times(out: &mut Vec<u8>, times: u64) -> Result<(), AllocError>
-    ensures { OnOk result (out.new.items ≡ out.old.items ++ times_text times) }
-{
-    if times == 1 {
-        return out.extend_from_slice(b"once");
-    }
-    push_number(out, times, b" times")
 }
 
 /// Some of the questions of a log.

@@ -14,7 +14,7 @@ mod texts;
 mod wrong_words;
 
 pub use asked_words::{asked_by, letting_question};
-pub use counts::{Share, push_number, push_times};
+pub use counts::{Share, push_number};
 pub use laws::{what_texts_tell, what_words_ask_without_who_asks};
 pub use order::most_asked_first;
 pub use questions::{rule_request, who_asks};
