@@ -14,7 +14,7 @@ use Rattle.aa_set_answers.specs.ProfileNames.{full_name_at}
 use Rattle.aa_set_answers.specs.RuleLines.{exec_text}
 use Rattle.aa_set_answers.specs.StackNames.{stack_name}
 use Rattle.aatry_report.specs.Headings.{heading_line}
-use Rattle.aatry_report.specs.Fields.{Plain, Quoted, Words, told}
+use Rattle.aatry_report.specs.Fields.{Plain, Quoted, Said, Words, told}
 use Rattle.aatry_report.specs.declared.form.Form.{Form}
 use Rattle.aatry_report.specs.declared.form.Form.TheVariants.{Lines, Records}
 
@@ -78,38 +78,21 @@ lack_text (Some name) destination = if is_some (stack_of name) then stack_lack n
 abbrev pub lack_of : Transition → List ℕ
 lack_of transition = lack_text transition.target (row transition.word).destination
 
--- a transition that leads somewhere, by the text of its rule; and one that leads to a stack, with its base
-unfoldable pub led_to : Form → (rule to : List ℕ) → List ℕ
-led_to form rule to =
-    told form (codes "transition")
-    (Words (codes "  ") ∷ Plain (codes "rule") rule ∷ Words (codes ": leads to ") ∷ Plain (codes "leads_to") to ∷ [])
+-- a transition, by the text of its rule, and two fields, each after its words
+unfoldable pub transition_told : Form → (rule words : List ℕ) → Said → (further : List ℕ) → Said → List ℕ
+transition_told form rule words field further other =
+    told form (codes "transition") (Words (codes "  ") ∷ Plain (codes "rule") rule ∷ Words words ∷ field ∷ Words further ∷ other ∷ [])
 
-unfoldable pub led_on : Form → (rule to base : List ℕ) → List ℕ
-led_on form rule to base =
-    told form (codes "transition")
-    (Words (codes "  ") ∷ Plain (codes "rule") rule ∷ Words (codes ": leads to ") ∷ Plain (codes "leads_to") to
-    ∷ Words (codes ", on ") ∷ Quoted (codes "on") base ∷ [])
-
+-- one that leads somewhere, and the base of the stack to which it leads, if it has one
 abbrev pub led_text : Form → (rule to : List ℕ) → (base : Option (List ℕ)) → List ℕ
-led_text form rule to None = led_to form rule to
-led_text form rule to (Some base) = led_on form rule to base
+led_text form rule to None = transition_told form rule (codes ": leads to ") (Plain (codes "leads_to") to) [] (Words [])
+led_text form rule to (Some base) = transition_told form rule (codes ": leads to ") (Plain (codes "leads_to") to) (codes ", on ") (Quoted (codes "on") base)
 
 -- one to whose destination something lacks, and where its fallback leads, if it leads somewhere
-unfoldable pub led_nowhere : Form → (rule lack : List ℕ) → List ℕ
-led_nowhere form rule lack =
-    told form (codes "transition")
-    (Words (codes "  ") ∷ Plain (codes "rule") rule ∷ Words (codes ": ") ∷ Plain (codes "lacks") lack
-    ∷ Words (codes ", so it leads nowhere") ∷ [])
-
-unfoldable pub falling_back : Form → (rule lack to : List ℕ) → List ℕ
-falling_back form rule lack to =
-    told form (codes "transition")
-    (Words (codes "  ") ∷ Plain (codes "rule") rule ∷ Words (codes ": ") ∷ Plain (codes "lacks") lack
-    ∷ Words (codes ", so it falls back to ") ∷ Plain (codes "falls_back_to") to ∷ [])
-
 abbrev pub lacking_text : Form → (rule lack : List ℕ) → (fallback : Option (List ℕ)) → List ℕ
-lacking_text form rule lack None = led_nowhere form rule lack
-lacking_text form rule lack (Some to) = falling_back form rule lack to
+lacking_text form rule lack None = transition_told form rule (codes ": ") (Plain (codes "lacks") lack) (codes ", so it leads nowhere") (Words [])
+lacking_text form rule lack (Some to) =
+    transition_told form rule (codes ": ") (Plain (codes "lacks") lack) (codes ", so it falls back to ") (Plain (codes "falls_back_to") to)
 
 -- a transition, by where its word leads, the base of that, and where its fallback leads
 abbrev pub line_of : Form → Transition → Option (List ℕ) → Option (List ℕ) → Option (List ℕ) → List ℕ

@@ -17,10 +17,7 @@ fn push_asked_text<'x>(teller: Teller, text: &'x [u8], out: &mut Vec<u8>) -> Res
     tell(
         teller,
         "request",
-        &[
-            Field::Words("# asks: "),
-            Field::Plain("question", text),
-        ],
+        &[Field::Words("# asks: "), Field::Plain("question", text)],
         out,
     )
 }

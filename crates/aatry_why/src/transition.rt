@@ -4,7 +4,8 @@ ghost use Rattle.std.specs.Prelude.{◌≡◌, ◌++◌, OnOk};
 ghost use Rattle.std.specs.Option.{option_copied};
 ghost use Rattle.aa_explain.specs.Leads.{seen_lead};
 ghost use Rattle.aa_bytes.specs.Quoting.{written_text};
-ghost use Rattle.aatry_why.specs.Transitions.{attachment_lack, falling_back, lack_text, lacking_text, led_nowhere, led_on, led_text, led_to, line_of, name_lack, transition_lines};
+ghost use Rattle.aatry_report.specs.SeenFields.{seen_field};
+ghost use Rattle.aatry_why.specs.Transitions.{attachment_lack, lack_text, lacking_text, led_text, line_of, name_lack, transition_lines, transition_told};
 
 use crate::destinations::{destination_base, destination_text};
 use aa_bytes::{SharedBytes, push_text};
@@ -68,15 +69,19 @@ fn push_lack(
     push_name_lack(name.as_slice(), destination, out)
 }
 
-// Appends where a transition leads, by the text of its rule.
-#[tactic(auto, unfolding(crate::specs::Transitions::led_to))]
-fn push_led_to<'x>(
+// Appends a transition, by the text of its rule, and two fields, each after its words.
+#[tactic(auto, unfolding(crate::specs::Transitions::transition_told))]
+fn push_told<'x>(
     teller: Teller,
     rule: &'x [u8],
-    to: &'x [u8],
+    words: &'x str,
+    field: Field<'x>,
+    further: &'x str,
+    other: Field<'x>,
     out: &mut Vec<u8>,
 ) -> Result<(), AllocError>
-    ensures { OnOk result (out.new.items ≡ out.old.items ++ led_to teller.form rule.now to.now) }
+    ensures { OnOk result (out.new.items
+        ≡ out.old.items ++ transition_told teller.form rule.now words.now (seen_field field.entry) further.now (seen_field other.entry)) }
 {
     tell(
         teller,
@@ -84,34 +89,10 @@ fn push_led_to<'x>(
         &[
             Field::Words("  "),
             Field::Plain("rule", rule),
-            Field::Words(": leads to "),
-            Field::Plain("leads_to", to),
-        ],
-        out,
-    )
-}
-
-// Appends the stack to which a transition leads, and its base, by the text of its rule.
-#[tactic(auto, unfolding(crate::specs::Transitions::led_on))]
-fn push_led_on<'x>(
-    teller: Teller,
-    rule: &'x [u8],
-    to: &'x [u8],
-    base: &'x [u8],
-    out: &mut Vec<u8>,
-) -> Result<(), AllocError>
-    ensures { OnOk result (out.new.items ≡ out.old.items ++ led_on teller.form rule.now to.now base.now) }
-{
-    tell(
-        teller,
-        "transition",
-        &[
-            Field::Words("  "),
-            Field::Plain("rule", rule),
-            Field::Words(": leads to "),
-            Field::Plain("leads_to", to),
-            Field::Words(", on "),
-            Field::Quoted("on", base),
+            Field::Words(words),
+            field,
+            Field::Words(further),
+            other,
         ],
         out,
     )
@@ -127,63 +108,17 @@ fn push_led(
 ) -> Result<(), AllocError>
     ensures { OnOk result (out.new.items ≡ out.old.items ++ led_text teller.form rule.now to.now (option_copied base.entry)) }
 {
+    let led = Field::Plain("leads_to", to);
     match base {
-        None => push_led_to(teller, rule, to, out),
-        Some(base) => push_led_on(teller, rule, to, base, out),
+        None => push_told(teller, rule, ": leads to ", led, "", Field::Words(""), out),
+        Some(base) => {
+            let on = Field::Quoted("on", base);
+            push_told(teller, rule, ": leads to ", led, ", on ", on, out)
+        }
     }
 }
 
-// Appends what doesn't exist to which a transition would lead, by the text of its rule, without a fallback that leads somewhere.
-#[tactic(auto, unfolding(crate::specs::Transitions::led_nowhere))]
-fn push_led_nowhere<'x>(
-    teller: Teller,
-    rule: &'x [u8],
-    lack: &'x [u8],
-    out: &mut Vec<u8>,
-) -> Result<(), AllocError>
-    ensures { OnOk result (out.new.items ≡ out.old.items ++ led_nowhere teller.form rule.now lack.now) }
-{
-    tell(
-        teller,
-        "transition",
-        &[
-            Field::Words("  "),
-            Field::Plain("rule", rule),
-            Field::Words(": "),
-            Field::Plain("lacks", lack),
-            Field::Words(", so it leads nowhere"),
-        ],
-        out,
-    )
-}
-
-// Appends the same, and where its fallback leads.
-#[tactic(auto, unfolding(crate::specs::Transitions::falling_back))]
-fn push_falling_back<'x>(
-    teller: Teller,
-    rule: &'x [u8],
-    lack: &'x [u8],
-    to: &'x [u8],
-    out: &mut Vec<u8>,
-) -> Result<(), AllocError>
-    ensures { OnOk result (out.new.items ≡ out.old.items ++ falling_back teller.form rule.now lack.now to.now) }
-{
-    tell(
-        teller,
-        "transition",
-        &[
-            Field::Words("  "),
-            Field::Plain("rule", rule),
-            Field::Words(": "),
-            Field::Plain("lacks", lack),
-            Field::Words(", so it falls back to "),
-            Field::Plain("falls_back_to", to),
-        ],
-        out,
-    )
-}
-
-// Appends what doesn't exist to which a transition would lead, by the text of its rule, and where its fallback leads.
+// Appends what doesn't exist to which a transition would lead, by the text of its rule, and where its fallback leads, if it leads somewhere.
 fn push_lacking(
     teller: Teller,
     rule: &[u8],
@@ -193,9 +128,32 @@ fn push_lacking(
 ) -> Result<(), AllocError>
     ensures { OnOk result (out.new.items ≡ out.old.items ++ lacking_text teller.form rule.now lack.now (option_copied fallback.entry)) }
 {
+    let lacks = Field::Plain("lacks", lack);
     match fallback {
-        None => push_led_nowhere(teller, rule, lack, out),
-        Some(to) => push_falling_back(teller, rule, lack, to, out),
+        None => {
+            let nowhere = Field::Words("");
+            push_told(
+                teller,
+                rule,
+                ": ",
+                lacks,
+                ", so it leads nowhere",
+                nowhere,
+                out,
+            )
+        }
+        Some(to) => {
+            let back = Field::Plain("falls_back_to", to);
+            push_told(
+                teller,
+                rule,
+                ": ",
+                lacks,
+                ", so it falls back to ",
+                back,
+                out,
+            )
+        }
     }
 }
 
